@@ -77,7 +77,7 @@ pub struct Data {
 }
 
 impl Data {
-    // Answers a request with the bytes in memory, in chunks if there are at least `threshold` bytes.
+    // Answers a request with the bytes in memory, with this chunked threshold.
     fn answer_from_memory<R: Clock + Wait + Drop>(
         &self,
         rt: &R,
@@ -92,7 +92,7 @@ impl Data {
         request.respond(response, current_date(rt))
     }
 
-    // Answers a request with the file, in chunks if it has at least `threshold` bytes.
+    // Answers a request with the file, with this chunked threshold.
     fn answer_from_file<R: DataFiles + Clock + Wait + Drop>(
         &self,
         rt: &R,
@@ -165,8 +165,8 @@ fn answer_by_four<R: ServerRuntime + DataFiles + Sync>(
     );
 }
 
-/// Listens on the address, prints it, and serves with `recv` or `serve`, as `how` names it. Any other word is a usage
-/// error.
+/// Listens on the address, prints it, and serves with `recv` or `serve`, as `how` says. For any other word it fails
+/// with `Usage` after it has printed the address.
 pub fn serve_bodies<R: ServerRuntime + DataFiles + Sync, O: Write>(
     rt: R,
     alloc: Global,

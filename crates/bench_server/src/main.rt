@@ -1,10 +1,10 @@
 //! The server for benchmarks, and for trials by hand on an open port.
 //!
 //! `bench_server [--lenient|--strict|--standard] ADDRESS` answers every request with `hello world`, through a handler:
-//! each connection's worker answers that connection's requests. Heads are read under the named profile, by default
+//! each connection's worker answers that connection's requests. Requests are read under the named profile, by default
 //! `Standard`, and clients have the default limits. Once a minute, and when it stops, the server prints its counts; it
-//! keeps serving if nobody reads them. A line `stop` on standard input stops it; it waits at most 10 seconds for what
-//! is open.
+//! keeps serving if nobody reads them. A line `stop` on standard input stops it; it waits at most 10 seconds for open
+//! requests and connections.
 //!
 //! `bench_server --bodies recv|serve ADDRESS FILE` reads bodies and sends long bodies (module `bodies`).
 #![tactic(auto)]
@@ -33,7 +33,7 @@ use tiny_http::{ConfigListenAddr, Limits, Profile};
 // Seconds between two lines of counts.
 const REPORT_SECS: u64 = 60;
 
-// Maximum number of seconds that a stop waits for what is open.
+// Maximum number of seconds that a stop waits for open requests and connections.
 const STOP_SECS: u64 = 10;
 
 // Maximum number of tenths of a second that the program waits for its last line to be printed, since perhaps nobody
@@ -49,10 +49,10 @@ pub enum BenchFault {
     /// The server can't listen on the address.
     #[error("cannot listen: {0}")]
     CannotListen(ServerError),
-    /// Serving failed.
+    /// Serving failed, or the file to send can't be read.
     #[error("cannot serve: {0}")]
     Serving(io::Error),
-    /// Memory was refused.
+    /// Memory was refused, or a thread could not be started.
     #[error("out of memory")]
     OutOfMemory,
 }
@@ -135,7 +135,7 @@ fn listen<R: ServerRuntime>(
     Ok(Arc::new(alloc, server).map_err(|_| AllocError)?)
 }
 
-// Stops the server once a line `stop` arrives. Returns without stopping it if the input ends or fails before.
+// Stops the server once a line `stop` arrives. Returns without stopping it if the input ends or fails before that.
 fn stop_when_told<R: ServerRuntime, I: BufRead + Drop>(
     rt: &R,
     alloc: Global,
@@ -196,8 +196,8 @@ fn report_progress<R: ServerRuntime, O: Write>(
     progress.has_printed.store(true, Ordering::SeqCst);
 }
 
-// Waits until the last line is printed, for at most `PRINT_TENTHS`: the thread that prints may block forever if nobody
-// reads.
+// Waits until the last line has been printed, for at most `PRINT_TENTHS` tenths of a second: the thread that prints may
+// block forever if nobody reads.
 fn wait_for_report<R: Wait + Clock>(rt: &R, progress: &Progress) {
     for _ in 0..PRINT_TENTHS {
         if progress.has_printed.load(Ordering::SeqCst) {
@@ -265,8 +265,8 @@ fn report<E: Write>(fault: &BenchFault, err: &mut E) -> u8 {
 
 /// Listens on the address in the arguments, and answers every request with `hello world` until a line `stop` arrives on
 /// `input`. Another thread prints on `out` where the server listens, and its counts. Returns the exit status: 0; 2 if
-/// the arguments aren't `[--lenient|--strict|--standard] ADDRESS`; 1 if the server can't listen or serving fails, or if
-/// memory is refused. A line on `err` reports the error.
+/// the arguments aren't `[--lenient|--strict|--standard] ADDRESS`; 1 if the server can't listen, serving fails, memory
+/// is refused, or a thread can't be started. A line on `err` reports the error.
 pub fn serve_hello<R, I, O, E: Write>(
     rt: R,
     alloc: Global,

@@ -1,6 +1,6 @@
 //! Drives a `Connection` without threads: it reads requests from standard input, and writes responses to standard
-//! output. A `GET` is answered with its path, and a `POST` with its body; any other request is dropped, which answers
-//! it with an empty 500.
+//! output. A `GET` is answered with its target, and a `POST` with its body, or with 413 if the body is longer than 2048
+//! bytes. Any other request is dropped, which answers it with an empty 500.
 #![tactic(auto)]
 
 use httpdate::HttpDate;
@@ -15,7 +15,7 @@ use tiny_http_wire::response::Response;
 // Number of bytes that one read asks for.
 const PIECE: u16 = 1024;
 
-// Maximum number of reads for a body: two that return bytes, and one that finds the end. So a body has at most 2,048
+// Maximum number of reads for a body: two that return bytes, and one that finds the end. So a body has at most 2048
 // bytes.
 const PIECES: u16 = 3;
 
@@ -41,7 +41,7 @@ fn read_body<R: ReadDevice + Drop, W: WriteDevice + Drop>(
     Ok(None)
 }
 
-// Answers a request with its path.
+// Answers a request with its target, `path`.
 fn answer_path<R: ReadDevice + Drop, W: WriteDevice + Drop>(
     alloc: Global,
     connection: &mut Connection<R, W>,

@@ -23,7 +23,7 @@ pub(crate) trait Disk {
     /// Returns the canonical path, with links resolved, or `None` if it isn't UTF-8.
     fn real_path(&self, alloc: Global, path: &str) -> io::Result<Option<String>>;
 
-    /// Returns the names in a folder that are UTF-8, sorted.
+    /// Returns the sorted names of the entries of a folder that can be read and whose names are UTF-8.
     fn names_in(&self, alloc: Global, path: &str) -> io::Result<Vec<String>>;
 }
 

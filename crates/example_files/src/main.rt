@@ -1,9 +1,10 @@
 //! Serves the files of a folder: `example_files ADDRESS FOLDER`.
 //!
-//! It accepts `GET` and `HEAD`. A request for a folder is answered with its `index.html`, or a list of its files. A
-//! request for what can't be read, or is neither a file nor a folder, is answered with 404. A file that shrinks while
-//! it is sent ends its connection, since its length has already been sent. If memory is refused, the request is
-//! dropped, which answers it with an empty 500.
+//! It accepts `GET` and `HEAD`. A request for a folder is answered with its `index.html` or a list of its entries, or,
+//! if the path has no slash at its end, with a redirect to the path with one. A request for what can't be read, is
+//! outside the folder, or is neither a file nor a folder, is answered with 404. A file that shrinks while it is sent
+//! ends its connection, since its length has already been sent. If memory is refused, the answer is a 404, or the empty
+//! 500 of a dropped request.
 //!
 //! The program shows a path that stays within the folder (`below_folder`), a file of any length that isn't sent in
 //! chunks (`with_chunked_threshold`), a 304 without content (`contentless`), and headers added by `with`.
@@ -93,7 +94,8 @@ fn send_list<R: ReadDevice + Drop, W: WriteDevice + Drop, Rt: Disk + Clock + Wai
 }
 
 impl Folder {
-    // Returns the canonical path of what a request's path names, or `None` if that is not in the folder.
+    // Returns the canonical path of what a request's path names, or `None` if the path can't be resolved, or leads out
+    // of the folder.
     fn find<Rt: Disk>(&self, rt: &Rt, alloc: Global, path: &str) -> io::Result<Option<String>> {
         let Ok(decoded) = percent_decode_str(path).decode_utf8(alloc) else {
             return Ok(None);
@@ -114,7 +116,7 @@ impl<R: ReadDevice + Drop, W: WriteDevice + Drop, Rt: Disk + Clock + Wait + Drop
     Rt,
     Request<R, W, Rt>,
 > for Folder {
-    /// Answers a request with a file, an index or a listing.
+    /// Answers a request with a file, an index, a listing, a redirect or an error.
     fn handle(&self, rt: &Rt, alloc: Global, request: Request<R, W, Rt>) -> io::Result<()> {
         if !matches!(request.method(), Method::Get | Method::Head) {
             let answer = Response::status(alloc, StatusCode(405))?;
@@ -130,8 +132,8 @@ impl<R: ReadDevice + Drop, W: WriteDevice + Drop, Rt: Disk + Clock + Wait + Drop
             _ => return send_status(rt, alloc, request, 404),
         }
         if !request.path().ends_with('/') {
-            // The location is relative to the last segment. If it were the whole path and began with two slashes, it
-            // would name a host.
+            // The location is relative, made from the last segment alone. If it were the whole path and began with two
+            // slashes, it would name a host.
             let Some((_, part)) = request.path().rsplit_once('/') else {
                 return send_status(rt, alloc, request, 404);
             };

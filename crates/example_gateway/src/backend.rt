@@ -1,4 +1,4 @@
-//! A connection to the backend, which sends the request and looks for the response at the same time.
+//! A connection to the backend. It looks for the response while it sends the request.
 use std::alloc::Global;
 use std::io;
 use std::io::{Chain, Cursor, ErrorKind, Read, Write};
@@ -9,10 +9,11 @@ use tiny_http_client::answer_head::{AnswerHead, read_answer_head};
 /// Maximum number of bytes that are forwarded at a time.
 pub(crate) const PIECE: usize = 8192;
 
-// Maximum length in bytes of a response's head, including the interim heads before it.
+// Length in bytes above which a response's head, with the interim heads before it, is refused if it is still
+// incomplete.
 const LONGEST_HEADS: usize = 65_536;
 
-// Seconds after which a backend that neither accepts bytes nor responds has timed out.
+// Seconds after which a backend that accepts no bytes, or sends no response, has timed out.
 const PATIENCE: u64 = 10;
 
 // Milliseconds that a write waits for the backend before it looks for the response again.
@@ -48,7 +49,7 @@ fn end_of_head(bytes: &[u8]) -> Option<usize> {
     None
 }
 
-// Returns a head with its bytes from 128 on percent-encoded, as `Standard` encodes those of a request's target.
+// Returns a head with its bytes from 128 on percent-encoded, as `Standard` encodes those of a request's field values.
 fn encoded(alloc: Global, head: &[u8]) -> io::Result<Vec<u8>> {
     let mut bytes = Vec::new(alloc);
     for byte in head {
@@ -84,7 +85,7 @@ impl<Rt: Clock> Backend<'_, Rt> {
     }
 
     // Returns the next head and its length in bytes, or `None` if the head is incomplete. Fails with `InvalidData` if
-    // it is malformed.
+    // it is malformed, and with `InvalidData` or `OutOfMemory` if memory is refused.
     fn next_head(&self) -> io::Result<Option<(AnswerHead, usize)>> {
         let front = self.front.as_slice();
         if let Ok(found) = read_answer_head(self.alloc, front) {
@@ -156,7 +157,8 @@ impl<Rt: Clock> Backend<'_, Rt> {
         }
     }
 
-    // Waits for the response's head, for at most ten seconds.
+    // Waits for the response's head, for at most ten seconds, and then fails with `TimedOut`. Fails with
+    // `UnexpectedEof` if the connection ends before that.
     fn wait(&mut self) -> io::Result<()> {
         let begun = Instant::now(self.rt)?;
         let patience = Duration::from_secs(PATIENCE);

@@ -8,7 +8,8 @@ use tiny_http::{Header, HeaderField, Request, Response};
 use tiny_http_client::answer_head::AnswerHead;
 use tiny_http_standard_head::lists::has_element;
 
-// The headers that apply to one connection only, and those that the gateway replaces with its own.
+// The headers that aren't forwarded: those that apply to one connection only, and those that the gateway handles or
+// writes itself.
 const HOP: [&str; 9] = [
     "Connection",
     "Content-Length",
@@ -31,7 +32,8 @@ fn is_like(field: &HeaderField, name: &str) -> bool {
         })
 }
 
-// Returns whether a header isn't forwarded: it is one of `HOP`, or `Connection` names it. `Host` is always forwarded.
+// Returns whether a header isn't forwarded: it is one of `HOP`, or `Connection` names it. Returns `false` for `Host`,
+// whatever `Connection` names.
 fn is_hop(header: &Header, headers: &[Header]) -> bool {
     if header.field.equiv("Host") {
         return false;
@@ -115,7 +117,8 @@ pub(crate) enum Ending {
     Close,
 }
 
-/// Returns how the body after these headers ends, or `None` if the headers conflict or aren't understood.
+/// Returns how the body after these headers ends. `Transfer-Encoding` overrides `Content-Length`. Returns `None` if
+/// there is a transfer coding other than one `chunked`, or if the content lengths are invalid or differ.
 pub(crate) fn ending_of(headers: &[Header]) -> Option<Ending> {
     let mut codings = headers
         .iter()

@@ -1,10 +1,12 @@
 //! Forwards requests to another HTTP server, and its responses to the clients: `example_gateway ADDRESS BACKEND`.
 //!
-//! The client gets a 502 if its request can't be forwarded or the response isn't understood, a 504 if the backend
-//! accepts nothing for ten seconds or doesn't respond within ten seconds, and a 501 for `CONNECT`. A response that
-//! arrives before the whole request has been sent is forwarded too (module `backend`). Each message is framed anew, so
-//! a body is never taken for the next request. Headers that apply to one connection, and those that `Connection` names,
-//! aren't forwarded (RFC 9110, section 7.6.1).
+//! The client gets a 502 if its request can't be forwarded or the response isn't understood, a 504 after a timeout, and
+//! a 501 for `CONNECT`. A timeout occurs if the backend accepts nothing for ten seconds, if it doesn't respond within
+//! ten seconds after the request has been sent, or if reading the client's body times out.
+//!
+//! A response that arrives before the whole request has been sent is forwarded too (module `backend`). Each message is
+//! framed anew, so a body is never taken for the next request. Headers that apply to one connection, and those that
+//! `Connection` names, aren't forwarded (RFC 9110, section 7.6.1).
 //!
 //! The program shows a head that is lent beside its body (`parts`), the head of a response (`read_answer_head`), a body
 //! of known length (`Response::of`), and a body that is sent as it arrives (`respond_streaming`).
@@ -124,7 +126,7 @@ where
     W: WriteDevice + Drop,
     Rt: Net<Stream = TcpStream> + Clock + Wait + Drop,
 {
-    /// Answers a request with the backend's response.
+    /// Answers a request with the backend's response, or with a 501, 502 or 504.
     fn handle(&self, rt: &Rt, alloc: Global, request: Request<R, W, Rt>) -> io::Result<()> {
         let mut request = request;
         if request.method() == &Method::Connect {

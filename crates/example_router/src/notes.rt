@@ -79,8 +79,8 @@ impl Notebook {
         Ok(values)
     }
 
-    // Adds the note in a body. Returns the response: the note, 400 if the body is invalid, or 507 if there are too many
-    // notes.
+    // Adds the note in a body. Returns the response: the note, 400 if the body is invalid, or 507 if there are
+    // `MOST_NOTES` notes already.
     fn add<Rt: Wait>(&self, rt: &Rt, alloc: Global, body: &[u8]) -> io::Result<Answer> {
         let value = match Value::from_slice(alloc, body) {
             Ok(value) => value,
@@ -100,7 +100,7 @@ impl Notebook {
         json_answer(alloc, 201, &json!(in alloc; {"id": id, "text": text})?)
     }
 
-    // Returns the response to a request for all notes, or one that adds a note.
+    // Returns the response to a request for `/notes`: all notes, the result of adding one, or a 405.
     fn answer_notes<Rt: Wait>(
         &self,
         rt: &Rt,
@@ -118,7 +118,7 @@ impl Notebook {
         }
     }
 
-    // Returns the response to a request for one note, or one that removes it.
+    // Returns the response to a request for the note `id`: the note, which `DELETE` removes, or a 404 or 405.
     fn answer_note<Rt: Wait>(
         &self,
         rt: &Rt,

@@ -1,5 +1,5 @@
-//! Sends each WebSocket message back: `example_websocket_echo ADDRESS`. Any other request is answered with 426, and a
-//! request above the limit of upgraded connections with 503.
+//! Sends each WebSocket message back: `example_websocket_echo ADDRESS`. A handshake above the limit of upgraded
+//! connections is answered with 503, and any other request that isn't accepted with 426.
 //!
 //! The program shows an upgrade with `tiny_http_websocket`, frames with `tungstenite`, and `serve`, which gives each
 //! connection a thread: an open WebSocket keeps its thread.
@@ -46,7 +46,7 @@ fn send_back<S: Read + Write + Drop>(socket: &mut WebSocket<S, NoMask>) -> Resul
     Ok(())
 }
 
-// Sends each message back. A client that breaks the protocol gets a Close frame.
+// Sends each message back. If it ends with an error of the client (`close_code`), the client gets a Close frame.
 fn talk<S: Read + Write + Drop>(alloc: Global, stream: S) -> Result<(), Error> {
     let config = WebSocketConfig::default()
         .max_message_size(Some(MOST))

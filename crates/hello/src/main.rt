@@ -33,7 +33,7 @@ impl<R: Clock + Wait + Drop> Handler<R, ServerRequest<R>> for HelloWorld {
     }
 }
 
-// Answers all requests of a server on four threads. Returns if accepting connections fails, and ignores the error.
+// Answers requests of a server on four threads until `serve_by` returns, and ignores its error.
 fn answer_all<R: Host>(alloc: Global, server: &Server<R>) {
     let _ = server.serve_by(alloc, 4, &HelloWorld);
 }
@@ -68,8 +68,8 @@ fn report<E: Write>(fault: &HelloFault<'_>, err: &mut E) -> u8
 }
 
 /// Listens on the address in the only argument, prints it on `out`, and answers every request with `hello world` until
-/// there are no more. Returns the exit status: 0; 2 if there isn't exactly one argument; 1 if it can't listen on the
-/// address. A line on `err` reports the error.
+/// serving ends. Returns the exit status: 0, even if serving ended with an error; 2 if there isn't exactly one
+/// argument; 1 if it can't listen on the address. A line on `err` reports an error whose status isn't 0.
 pub fn hello_on<R: Host, O: Write, E: Write>(
     rt: R,
     alloc: Global,

@@ -56,7 +56,7 @@ fn read_one(
 }
 
 /// Reads successive responses to requests with these methods, up to the first that is invalid or incomplete. Adds the
-/// responses and the remaining bytes.
+/// responses, the reason if one can't be read, and the remaining bytes.
 pub fn read_answers(
     alloc: Global,
     methods: &[Method],
@@ -120,7 +120,7 @@ fn add_stop(alloc: Global, to: &mut Vec<Finding>, stop: Option<Stop>) -> Result<
     }
 }
 
-// Returns whether a further read returns no byte and ends with `stop`.
+// Returns whether the decoder returns no further byte, and then ends with `stop`.
 fn is_over(
     alloc: Global,
     decoder: &mut Decoder<ByPieces<Canned>>,
@@ -130,7 +130,7 @@ fn is_over(
     Ok(data.is_empty() && found == stop)
 }
 
-// Returns whether each of two further reads returns no byte and ends with `stop`.
+// Returns whether `is_over` holds twice in succession.
 fn is_settled(
     alloc: Global,
     decoder: &mut Decoder<ByPieces<Canned>>,

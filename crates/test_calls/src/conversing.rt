@@ -144,8 +144,9 @@ fn add_parts(
     add_outlet(alloc, outlet, to)
 }
 
-/// Adds the results of the last call, the number of reads from the client, and what the writer has flushed. If
-/// `is_past`, adds instead what is left in the source and the outlet, and what the writer accepted.
+/// Adds the results of the last call, `last`, the number of reads from the client, and what the writer has flushed. If
+/// `is_past`, that is, after the last call of the row, adds instead what is left in the source and the outlet, and what
+/// the writer accepted.
 pub fn add_outcome(
     alloc: Global,
     last: Result<Vec<Finding>, AllocError>,
@@ -178,7 +179,7 @@ pub fn call_each<C: Callee>(
 
 // Makes the first `count` calls on a new connection. Adds the results of the last call, the number of reads from the
 // client, and what the writer has flushed. If there are fewer than `count` calls, adds instead what is left in the
-// source and the outlet.
+// source and the outlet, and what the writer accepted.
 fn call_front(
     alloc: Global,
     profile: Profile,
@@ -196,9 +197,9 @@ fn call_front(
     add_outcome(alloc, last, (source, outlet), count > deeds.len(), to)
 }
 
-/// Makes calls on a connection. Adds the results of each, with the number of reads from the client and what is flushed
-/// by then, and finally what is left in the source and the outlet. A connection does not expose its reader and writer,
-/// so for each call a new connection repeats the earlier calls first.
+/// Makes calls on a connection. Adds the results of each, with the number of reads from the client and what has been
+/// flushed by then, and finally what is left in the source and the outlet, and what the writer accepted. A connection
+/// does not expose its reader and writer, so for each call a new connection repeats the earlier calls first.
 pub fn call_connections(
     alloc: Global,
     profile: Profile,

@@ -6,7 +6,7 @@ use std::io::{ErrorKind, Write};
 use test_case_files::devices::Trier;
 use tiny_http_wire::device::{Canned, Metered, ReadDevice, copy_front};
 
-/// A reader of a client's bytes. It returns them piece by piece, at most `most` bytes a call.
+/// A reader of a client's bytes. It returns them piece by piece, at most `most` bytes a call, and then fails or ends.
 #[derive(Drop)]
 pub struct Client {
     pieces: Vec<Vec<u8>>,
@@ -87,7 +87,8 @@ impl ReadDevice for Client {
     }
 }
 
-/// A writer that records the length of each write, and what has been flushed.
+/// A writer that records the length of each write, and what has been flushed. If it is stuck, it accepts nothing, and
+/// records no length.
 #[derive(Drop)]
 pub struct Taker {
     trier: Trier,
@@ -117,7 +118,7 @@ impl Taker {
         &self.trier
     }
 
-    /// Returns the length of each write.
+    /// Returns the length of the buffer of each write.
     pub fn sizes(&self) -> &[usize] {
         self.sizes.as_slice()
     }
@@ -159,7 +160,7 @@ pub struct Watched {
 }
 
 impl Watched {
-    /// Creates data with these bytes, after which they end or fail.
+    /// Creates data with these bytes. After the bytes, a read fails with `fault`, or ends if it is `None`.
     pub fn new(
         alloc: Global,
         bytes: &[u8],
@@ -172,7 +173,7 @@ impl Watched {
         })
     }
 
-    /// Returns how much was read: `nothing` if no read was made, `a piece` if at most 8,192 bytes were read, or `more`.
+    /// Returns how much was read: `nothing` if no read was made, `a piece` if at most 8192 bytes were read, or `more`.
     pub fn reads(&self) -> &'static str {
         if self.calls == 0 {
             "nothing"

@@ -277,7 +277,7 @@ impl Callee for Talk {
 
 // Makes the first `count` calls with a new source and outlet. Adds the results of the last call, the number of reads
 // from the client, and what the writer has flushed. If there are fewer than `count` calls, adds instead what is left in
-// the source and the outlet.
+// the source and the outlet, and what the writer accepted.
 fn call_front(
     alloc: Global,
     profile: Profile,
@@ -298,7 +298,8 @@ fn call_front(
 }
 
 /// Makes calls on requests that are read without a driver. Adds the results of each call, with the number of reads from
-/// the client and what is flushed by then, and finally what is left in the source and the outlet.
+/// the client and what has been flushed by then, and finally what is left in the source and the outlet, and what the
+/// writer accepted.
 pub fn call_exchanges(
     alloc: Global,
     profile: Profile,

@@ -1,4 +1,4 @@
-//! Adds headers to a response: one by one, in a chain, and as it is created.
+//! Adds headers to a response: one by one, in a chain, and when the response is created.
 use crate::findings::{add, add_shown};
 use crate::row::Finding;
 use std::alloc::{AllocError, Global};

@@ -42,7 +42,7 @@ fn finished(alloc: Global, finishing: Finishing<u8>) -> Result<Vec<u8>, AllocErr
     }
 }
 
-// Formats the result of leaving a text.
+// Formats the result of leaving a text for a number.
 fn left(alloc: Global, leaving: Leaving<u8>) -> Result<Vec<u8>, AllocError> {
     match leaving {
         Leaving::Left => word(alloc, "left"),
@@ -55,7 +55,7 @@ fn left(alloc: Global, leaving: Leaving<u8>) -> Result<Vec<u8>, AllocError> {
     }
 }
 
-// Issues the next number, takes its item, and finishes it. Returns the number if its turn passed.
+// Issues the next number, takes the item for it, and finishes it with that item. Returns the number if its turn passed.
 fn pass_one(turns: &mut Turns<u8>) -> Option<u64> {
     let number = turns.issue().ok()?;
     let item = turns.take(number)?;
@@ -65,8 +65,8 @@ fn pass_one(turns: &mut Turns<u8>) -> Option<u64> {
     }
 }
 
-// Issues, takes and finishes `count` numbers, which must count up from 0. Formats `passed`, or the first number whose
-// turn did not pass.
+// Issues, takes and finishes `count` numbers, which must count up from 0. Formats `passed`, or the first number for
+// which that failed.
 fn pass(alloc: Global, turns: &mut Turns<u8>, count: u64) -> Result<Vec<u8>, AllocError> {
     for wanted in 0..count {
         if pass_one(turns) != Some(wanted) {

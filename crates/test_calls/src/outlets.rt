@@ -51,7 +51,8 @@ fn call_outlet(
     }
 }
 
-/// Makes calls on an outlet. Adds their results, what the outlet has buffered after them, and what its writer accepted.
+/// Makes calls on an outlet. Adds their results, what the outlet has buffered after them, whether it has ended, and
+/// what its writer accepted.
 pub fn call_outlets(alloc: Global, input: &Input, to: &mut Vec<Finding>) -> Result<(), AllocError> {
     let mut outlet = Outlet::new(Metered::new(Taker::new(alloc, input)));
     for deed in &input.deeds {

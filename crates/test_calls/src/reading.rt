@@ -44,7 +44,7 @@ fn add_to_input(alloc: Global, rows: &mut Vec<Row>, part: &str) -> Result<(), Li
     add_part(alloc, &row.call, &mut row.input, part)
 }
 
-// Appends to the text of the last result. Fails if there is no result, or if the text of the last one takes only one
+// Appends to the text of the last result. Fails if there is no result, or if the text of the last one may take only one
 // line.
 fn go_on(
     alloc: Global,
@@ -80,7 +80,7 @@ fn add_wanted(alloc: Global, wanted: &mut Vec<Finding>, text: &str) -> Result<()
     Ok(())
 }
 
-// Reads one line: a comment, the first line of a row, or a further line of the current row.
+// Reads one line: an empty line, a comment, the first line of a row, or a further line of the current row.
 fn read_line(
     alloc: Global,
     rows: &mut Vec<Row>,

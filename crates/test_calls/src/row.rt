@@ -63,7 +63,7 @@ pub enum Subject {
     Connection(Profile),
 }
 
-/// A call, with its arguments in the first line of its row.
+/// A call, with its arguments from the first line of its row.
 #[derive(Drop)]
 pub enum Call {
     /// Makes this call, whose only input is this text.

@@ -89,7 +89,7 @@ pub fn validate_head(
     }
 }
 
-/// Reads the head at the start of a client's bytes, which may have at most `limit` bytes. Adds a complete head, with
+/// Reads the head at the start of a client's bytes. The head may have at most `limit` bytes. Adds a complete head, with
 /// its length and summary; or the status with which the head is refused; or that the head is incomplete, and whether it
 /// has begun.
 pub fn read_first_head(

@@ -26,7 +26,8 @@ use test_data_files::text::shown;
 struct Trial {
     // Maximum number of bytes that a read returns, or that are passed to one write. 0 means no limit.
     piece: usize,
-    // How many bytes the writer accepts in this trial, and the error with which it then fails, if the trial limits it.
+    // How many bytes the writer accepts in this trial, and the error with which it then fails, or `None` if the trial
+    // doesn't limit the writer.
     room: Option<Room>,
 }
 
@@ -101,7 +102,8 @@ fn make_call(
     }
 }
 
-// Returns whether a result is compared with the row: always, or only if the row states a result of its kind.
+// Returns whether a result is compared with the row. Results of some kinds are compared only if the row states a result
+// of that kind.
 fn counts(finding: &Finding, wanted: &[Finding]) -> bool {
     !is_asked(finding.word) || wanted.iter().any(|want| want.word == finding.word)
 }
@@ -212,7 +214,7 @@ fn output_of(row: &Row) -> &[u8] {
 }
 
 // Tries a call with a writer that accepts `bytes` bytes and then fails. The writer must get that prefix of the output,
-// and no call after the failure. Returns the first difference.
+// and no call after the failure, which the call must report. Returns the first difference.
 fn try_room(alloc: Global, row: &Row, bytes: usize) -> Result<Option<Difference>, AllocError> {
     let output = output_of(row);
     let mut wanted = Vec::new(alloc);

@@ -39,7 +39,7 @@ pub fn number_or_none(word: &str) -> Result<Option<usize>, LineFault> {
     Ok(Some(number(word)?))
 }
 
-/// Parses a status code: a number below 65536.
+/// Parses a status code: a number below 65,536.
 pub fn status(word: &str) -> Result<StatusCode, LineFault> {
     match u16::try_from(number(word)?) {
         Ok(status) => Ok(StatusCode(status)),
@@ -84,7 +84,7 @@ pub fn header_line(alloc: Global, words: &str) -> Result<Header, LineFault> {
     }
 }
 
-/// Parses a header of the form `NAME: VALUE`. Fails if the header is not ASCII.
+/// Parses a header of the form `NAME: VALUE`. Fails if the text has no such form, or is not ASCII.
 pub fn header(alloc: Global, words: &str) -> Result<Header, LineFault> {
     let line = text(alloc, words)?;
     let Some((name, value)) = line.as_str().split_once(": ") else {

@@ -125,7 +125,7 @@ pub fn encode(
     add_written(alloc, to, writer, outcome)
 }
 
-// Builds a response with this status code, these data, and the headers and the threshold of a row.
+// Builds a response with this status code, these data, and the headers, the stated length and the threshold of a row.
 fn answer<'a, D>(
     alloc: Global,
     status: StatusCode,
@@ -189,7 +189,7 @@ const BY_THE_STANDARD: ResponseContext = ResponseContext {
     persistence: Some(Persistence::Persistent),
 };
 
-/// Prints a response under the standard profile. Adds the results, and how much of its data is read.
+/// Prints a response under the standard profile. Adds the results, and how much of its data was read.
 pub fn print_by_standard(
     alloc: Global,
     status: StatusCode,

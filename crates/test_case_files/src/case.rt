@@ -90,7 +90,7 @@ impl CaseStep {
 #[derive(Drop)]
 pub struct Case {
     pub name: String,
-    /// The profile under which heads are read.
+    /// The profile of the connection.
     pub profile: Profile,
     /// The bytes that the client sends.
     pub client: Vec<u8>,

@@ -84,7 +84,8 @@ impl Trier {
 }
 
 impl Write for Trier {
-    /// Accepts as many bytes as fit into the room.
+    /// Accepts as many bytes as fit into the room. Fails if none fits and `buf` is not empty, or if this call must
+    /// fail.
     fn write(&mut self, buf: &[u8]) -> io::Result<usize> {
         self.call()?;
         let n = buf.len().min(self.room);

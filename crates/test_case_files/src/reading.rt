@@ -139,8 +139,8 @@ fn header_in(alloc: Global, text: &str) -> Result<String, LineFault> {
     }
 }
 
-// Adds a part to an answer. Fails if the part is unknown, or if the answer has it already; only `data` and `header` may
-// be repeated.
+// Adds a part to an answer. Fails if the part is unknown or invalid, or if the answer has it already; only `data` and
+// `header` may be repeated.
 fn add_part(alloc: Global, answer: &mut Answer, text: &str) -> Result<(), LineFault> {
     let (word, words) = text.split_once(' ').unwrap_or((text, ""));
     match word {
@@ -242,7 +242,7 @@ fn add_line(alloc: Global, case: &mut Case, text: &str) -> Result<(), LineFault>
     Ok(())
 }
 
-// Reads one line: a comment, the start of a case, or a line of the current case.
+// Reads one line: an empty line, a comment, the start of a case, or a line of the current case.
 fn read_line(alloc: Global, cases: &mut Vec<Case>, line: &[u8]) -> Result<(), LineFault> {
     let Some(text) = line_text(line)? else {
         return Ok(());

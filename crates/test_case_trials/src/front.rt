@@ -64,8 +64,8 @@ fn given_in(reply: &[u8]) -> &[u8] {
     reply.strip_prefix(b"given ").unwrap_or_default()
 }
 
-// Returns all bytes that reads of the request with this number returned in the trial, and all that they return in the
-// case.
+// Returns all bytes that reads of the request with this number returned in the trial, and all that these reads return
+// in the case.
 fn given_of(
     alloc: Global,
     case: &Case,
@@ -209,8 +209,10 @@ fn without_close(alloc: Global, case: &Case, output: &[u8]) -> Result<Option<Vec
 /// Returns the first difference of a trial from its case, if the client's bytes were cut short by an end of input or,
 /// if `stop` is set, by a reader error. The requests must be the first ones of the case, and what their bodies return
 /// must be a prefix of what they return in the case. The first reply that differs must belong to an `ask` or a `read`.
-/// The output must be a prefix of the case's, and consist of complete responses. After a timeout, a 408 may follow it,
-/// and under the standard profile its last response may have `Connection: close`. No call of the writer may fail.
+///
+/// The output must be a prefix of the case's and, unless the case upgrades a request or takes its raw writer, consist
+/// of complete responses. After a timeout, a 408 may follow it, and under the standard profile its last response may
+/// have `Connection: close`. No call of the writer may fail.
 pub fn cut_difference(
     alloc: Global,
     case: &Case,

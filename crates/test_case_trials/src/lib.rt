@@ -1,5 +1,6 @@
-//! Tries each case of `test_case_files`: with several readers, with each call of the writer failing, with the client's
-//! bytes cut short, and with one of these bytes changed. A `Runner` determines how the steps are run.
+//! Tries the cases of `test_case_files`: over several readers, with each call of the writer failing, with the client's
+//! bytes cut short, with a reader that fails once, and with one of the client's bytes changed. A `Runner` runs the
+//! steps.
 #![tactic(auto)]
 
 pub mod front;

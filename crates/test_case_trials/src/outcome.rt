@@ -6,7 +6,7 @@ use test_data_files::text::shown;
 /// The outcome of a trial.
 #[derive(Drop)]
 pub struct Outcome {
-    /// The reply line of each step.
+    /// The reply line of each step that is not a date.
     pub replies: Vec<Vec<u8>>,
     /// The bytes that the writer accepted, and then those still buffered.
     pub output: Vec<u8>,
@@ -42,8 +42,8 @@ pub fn differing(
     }))
 }
 
-// Returns whether a failed writer explains why the reply to a response is `done` and not the error of its data: the
-// output had ended, so the data were not read, and the error did not occur.
+// Returns whether a failed writer explains why the reply to a step that responds is `done`, and not the error of the
+// response's data: the output had ended, so the data were not read, and the error did not occur.
 fn is_unmet(step: &CaseStep, found: &[u8]) -> bool {
     step.is_answer() && found == b"done".as_slice() && step.reply.starts_with(b"fault ")
 }
@@ -185,7 +185,7 @@ pub fn outcomes_differ(
     differing(alloc, what, end, other)
 }
 
-// Returns a difference if the case states why no further request comes, and the outcome has another reason.
+// Returns a difference if the case states why no further request comes, and the outcome states another reason.
 fn end_differs(
     alloc: Global,
     case: &Case,
@@ -203,8 +203,8 @@ fn end_differs(
 
 /// Returns the first difference of a trial's outcome from its case, if any. If a call of the writer failed by
 /// injection, the output may be a prefix of the case's, one reply may report the failure, and errors of data that were
-/// not read may be missing. Exactly one failure must then be counted. The writer must never be called again after a
-/// failure.
+/// not read may be missing. Exactly one failure must then be counted. Otherwise none must be, unless the case
+/// determines how its writer fails. The writer must never be called again after a failure.
 pub fn first_difference(
     alloc: Global,
     case: &Case,

@@ -15,7 +15,7 @@ use test_data_files::program::NamedFile;
 
 /// A way to run the steps of a case.
 pub trait Runner {
-    /// Returns the words that name this way in a report.
+    /// Returns the words that name this way in a report, with a space before them, or no words.
     fn how(&self) -> &'static str;
 
     /// Returns whether this way reports the requests' numbers itself, instead of taking them from the case.
@@ -49,15 +49,15 @@ pub fn files_of<'a>(
     Ok(all)
 }
 
-/// The numbers of cases that were tried, of runs, and of runs that differ.
+/// Counts of the cases tried, of the runs, and of the runs that differ.
 #[derive(Clone, Copy, Debug, PartialEq, Eq)]
 pub struct Tally {
     pub cases: u64,
-    /// Runs of complete cases.
+    /// Runs without an injected fault, or with a failing call of the writer.
     pub runs: u64,
     /// Runs with the client's bytes cut short.
     pub cuts: u64,
-    /// Runs in which one call of the reader failed.
+    /// Runs in which one call of the reader failed, and later calls did not.
     pub faults: u64,
     /// Runs with one of the client's bytes changed.
     pub changes: u64,
@@ -123,7 +123,7 @@ fn report<O: Write>(
     )
 }
 
-// Tries a case once. Returns whether a call of the writer failed.
+// Tries a case once, counts the run, and prints a line if it differs. Returns whether a call of the writer failed.
 fn try_once<'a, F: Runner, O: Write>(
     (alloc, runner): (Global, &mut F),
     out: &mut O,
@@ -145,7 +145,7 @@ fn try_once<'a, F: Runner, O: Write>(
 }
 
 // Tries a case once for each call of the writer, which is made to fail. Ends with a run in which no call fails, since
-// the writer isn't called as often. A case with more than `MOST_CALLS` calls counts as one that differs.
+// the writer isn't called as often. A case with `MOST_CALLS` calls or more counts as one that differs.
 fn try_failing<'a, F: Runner, O: Write>(
     (alloc, runner): (Global, &mut F),
     out: &mut O,
@@ -170,14 +170,15 @@ fn try_failing<'a, F: Runner, O: Write>(
     }
 }
 
-// Returns whether to cut a client's `length` bytes after `count` of them: at the first 1,200 and the last 50 positions,
+// Returns whether to cut a client's `length` bytes after `count` of them: at the first 1200 and the last 50 positions,
 // and at each multiple of 997 in between.
 fn is_cut_at(count: usize, length: usize) -> bool {
     count < 1200 || length.saturating_sub(count) <= 50 || count % 997 == 0
 }
 
 // Tries a case with the client's bytes cut short at each position that `is_cut_at` selects: by an end of input, by a
-// timeout, and by one of all error kinds, which take turns. Also tries it there with a reader that fails once.
+// timeout, and by an error whose kind depends on the position (`kind_at`). Also tries it there with a reader that fails
+// once, with `TimedOut` and then with `Interrupted`.
 fn try_cuts<'a, F: Runner, O: Write>(
     (alloc, runner): (Global, &mut F),
     out: &mut O,
@@ -214,8 +215,8 @@ fn try_bytes<'a, F: Runner, O: Write>(
     Ok(())
 }
 
-// Tries a case with each reader. Also makes each call of the writer fail in turn, unless the case determines how its
-// writer fails.
+// Tries a case with a reader of each piece size. Also makes each call of the writer fail in turn, unless the case
+// determines how its writer fails.
 fn try_whole<'a, F: Runner, O: Write>(
     (alloc, runner): (Global, &mut F),
     out: &mut O,
@@ -316,7 +317,7 @@ pub fn try_file<'a, F: Runner, O: Write>(
     Ok(places)
 }
 
-/// Tries the cases of all files in the first way, and then in the other ways. Cases that differ in the first way are
+/// Tries the cases of each file in the first way, and then in the other ways. Cases that differ in the first way are
 /// left out in the others, where a case with a wrong reply might wait forever. Returns whether no run differed.
 pub fn try_files<'a, F: Runner, G: Runner, O: Write>(
     alloc: Global,

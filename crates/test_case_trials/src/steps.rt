@@ -12,7 +12,7 @@ use tiny_http_wire::response::Response;
 /// Why the steps of a case can't be converted.
 #[derive(Clone, Copy, Debug, PartialEq, Eq)]
 pub enum StepsFault {
-    /// A header line of a response is invalid.
+    /// A header line of a response is invalid, or memory was refused for it.
     BadHeader,
     OutOfMemory,
 }
@@ -59,8 +59,8 @@ pub fn response_of(alloc: Global, answer: &Answer) -> Result<Response<ScriptData
     Ok(response)
 }
 
-/// Converts the action of a step. Returns the converted step, or `None` if the action only sets the date, and the date
-/// from then on.
+/// Converts the action of a step. Returns the converted step, or `None` if the action only sets the date or is not a
+/// step, and the date from then on.
 pub fn step_of(
     alloc: Global,
     deed: &Deed,

@@ -75,7 +75,8 @@ impl<R: Wait + Copy> Runner for ByRequests<R> {
     }
 
     /// Returns whether no step has to wait, since a single thread can't wait for itself. If responses are sent
-    /// together, a later step than in the case reports an error, so a case whose writer has a limit is left out.
+    /// together, also returns `false` for a case that limits what its writer accepts, since a later step than in the
+    /// case may then report the writer's error.
     fn takes(&self, case: &Case) -> bool {
         if self.leaving == Leaving::Together && case.room.is_some() {
             return false;

@@ -12,10 +12,10 @@ use tiny_http_request::request::{Body, Request};
 use tiny_http_request::sequential::SequentialWriter;
 use tiny_http_socket::cork::{Cork, CorkedWriter, FlushingReader};
 
-/// The writer below a connection's outlet.
+/// The writer to which a connection's outlet writes.
 pub(crate) type Below<R> = CorkedWriter<TrialSocket<R>, R>;
 
-/// The reader below a connection's input.
+/// The reader from which a connection reads its input.
 pub(crate) type Input<R> = FlushingReader<Reader, TrialSocket<R>>;
 
 pub(crate) type Connected<R> = ClientConnection<Input<R>, Below<R>, R>;
@@ -37,8 +37,8 @@ pub(crate) enum Held<R: Wait + Copy> {
     Stream(Stream<R>),
 }
 
-/// A request, raw writer or stream that is held, its number, and whether it may have written bytes that are not sent
-/// yet.
+/// A request, raw writer or stream that is held, its number, and whether it may have written bytes that have not been
+/// sent yet.
 #[derive(Drop)]
 struct Numbered<R: Wait + Copy> {
     number: u64,
@@ -76,8 +76,8 @@ impl<R: Wait + Copy> Holding<R> {
         next
     }
 
-    /// Removes what is held under `number`. Returns it, and whether it may have written bytes that are not sent yet, or
-    /// returns `None` if nothing is held there.
+    /// Removes what is held under `number`. Returns it, and whether it may have written bytes that have not been sent
+    /// yet, or returns `None` if nothing is held under that number.
     pub(crate) fn take(&mut self, number: u64) -> Option<(Held<R>, bool)> {
         let place = self.items.iter().position(|item| item.number == number)?;
         let Numbered {

@@ -29,8 +29,8 @@ impl<R: Wait> Write for Shared<R> {
     }
 }
 
-/// The writer of a trial in place of a socket. A vectored write of two byte strings writes only the first one that is
-/// not empty.
+/// The writer of a trial, used in place of a socket. A vectored write of two byte strings writes only the first one
+/// that is not empty.
 #[derive(Drop)]
 pub(crate) struct TrialSocket<R> {
     writer: Metered<Shared<R>>,

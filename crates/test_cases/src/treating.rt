@@ -31,7 +31,8 @@ fn number_of(reply: &[u8]) -> Option<&str> {
     str::from_utf8(number).ok()
 }
 
-// Receives the next request, and holds it under the number that the case states.
+// Receives the next request, holds it under the number that the case states, and formats the reply. If the case states
+// no number, the request is dropped.
 fn ask<R: Wait + Copy>(
     alloc: Global,
     holding: &mut Holding<R>,
@@ -226,8 +227,8 @@ fn number_in(step: &Step<ScriptData>) -> Option<u64> {
 }
 
 /// Makes the call that a step names, and formats its result. The case's reply, `wanted`, states under which number to
-/// hold the next request. If it is `nosuch`, no call is made, since none fits the step: for example, a read of a body
-/// whose client waits for a 100 first.
+/// hold the next request. If `wanted` is `nosuch`, only an `ask` is made, since no call fits any other step: for
+/// example, a read of a body whose client waits for a 100 first.
 pub(crate) fn treat<R: Wait + Copy>(
     alloc: Global,
     holding: &mut Holding<R>,

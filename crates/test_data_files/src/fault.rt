@@ -3,7 +3,7 @@ use crate::text::TextFault;
 use std::alloc::AllocError;
 use std::fmt;
 
-/// Why a line is invalid.
+/// Why a line can't be read.
 #[derive(Clone, Copy, Debug, PartialEq, Eq)]
 pub enum LineFault {
     /// The line is invalid for this reason.
@@ -41,7 +41,7 @@ pub fn line_text(line: &[u8]) -> Result<Option<&str>, LineFault> {
 /// Why a run over files was aborted.
 #[derive(Clone, Copy, Debug, PartialEq, Eq)]
 pub enum FilesFault<'a> {
-    /// The command line names no file.
+    /// The command line names no file, or is not UTF-8.
     Usage,
     /// The file of this name can't be read.
     CannotRead(&'a str),

@@ -1,7 +1,7 @@
 //! The names of error kinds.
 use std::io::ErrorKind;
 
-// The error kinds that a case may name, with their names in code.
+// The error kinds that data files may name, with their names in code.
 const KINDS: [(&str, ErrorKind); 19] = [
     ("AddrInUse", ErrorKind::AddrInUse),
     ("AddrNotAvailable", ErrorKind::AddrNotAvailable),
@@ -24,7 +24,7 @@ const KINDS: [(&str, ErrorKind); 19] = [
     ("WriteZero", ErrorKind::WriteZero),
 ];
 
-/// Returns the error kind of this name, or `None` if a case may not name it.
+/// Returns the error kind of this name, or `None` if data files may not name it.
 pub fn kind_of(name: &str) -> Option<ErrorKind> {
     for (known, kind) in &KINDS {
         if *known == name {
@@ -34,7 +34,7 @@ pub fn kind_of(name: &str) -> Option<ErrorKind> {
     None
 }
 
-/// Returns the error kind at this position in the list of all these kinds, repeated endlessly.
+/// Returns the error kind at this index in the list of all kinds that data files may name, repeated endlessly.
 pub fn kind_at(place: usize) -> ErrorKind {
     match KINDS.get(place % KINDS.len()) {
         Some((_, kind)) => *kind,

@@ -12,9 +12,9 @@ pub struct NamedFile<'a> {
     pub bytes: Vec<u8>,
 }
 
-/// What a program does with its files.
+/// How a program checks the files named on its command line.
 pub trait Checker {
-    /// Parses all files before it runs anything in them. Returns whether nothing differs.
+    /// Checks the files. Must parse all of them before it runs anything in them. Returns whether nothing differs.
     fn check<'a, O: Write>(
         &mut self,
         alloc: Global,
@@ -60,7 +60,8 @@ fn words<R: Env + AllocGlobal>(rt: &R) -> Result<Vec<String>, FilesFault<'static
     }
 }
 
-// Prints one line for an error, which begins with the program's name. Returns the exit status.
+// Prints one line for an error, beginning with the program's name. Returns the exit status: that of the error, or that
+// of `CannotWrite` if the line can't be printed.
 fn report<E: Write>(program: &str, fault: &FilesFault<'_>, err: &mut E) -> u8 {
     match writeln!(err, "{program}: {fault}") {
         Ok(()) => fault.status(),
@@ -70,7 +71,7 @@ fn report<E: Write>(program: &str, fault: &FilesFault<'_>, err: &mut E) -> u8 {
 
 /// Checks the files named on the command line, and returns the exit status: 0 if nothing differs, and 3 if something
 /// does. After an error, prints one line to `err`. The status is then 2 if the command line or a file is invalid, in
-/// which case nothing was run, and 1 if a file can't be read, memory is refused, or `out` can't be written.
+/// which case nothing was run, and 1 if a file can't be read, memory is refused, or `out` or `err` can't be written to.
 pub fn run_program<R: Env + Files + AllocGlobal, C: Checker, O: Write, E: Write>(
     rt: &R,
     program: &str,

@@ -6,7 +6,7 @@ use std::alloc::{AllocError, Global};
 pub enum TextFault {
     /// A backslash does not begin an escape.
     NoEscape,
-    /// A repeated piece has no count, no space after it, or no closing brace.
+    /// A repeated piece has no count, no space after the count, or no closing brace.
     NoRepeat,
     OutOfMemory,
 }
@@ -17,7 +17,7 @@ impl From<AllocError> for TextFault {
     }
 }
 
-// The first two field lines of every response on a connection, dated at Unix second 420895020.
+// The first two field lines of a final response of the server, dated at Unix second 420,895,020.
 const SERVED: &str = "Server: tiny-http (Rust)\r\nDate: Wed, 04 May 1983 11:17:00 GMT\r\n";
 
 // The field lines of a response without a body, and the end of its head.
@@ -136,8 +136,8 @@ fn add_repeated<'a>(
 }
 
 /// Adds the bytes that a text represents: each byte itself, `\r`, `\n`, `\t`, `\\`, `\xHH`, the abbreviations `\S`,
-/// `\Z` and `\T`, and `\{N TEXT}`, which repeats a text N times and may not contain another repetition. After an error
-/// some bytes may have been added.
+/// `\Z` and `\T`, and `\{N TEXT}`, which repeats a text N times. A repeated text may contain neither another repetition
+/// nor `}`. After an error some bytes may have been added.
 pub fn add_text(alloc: Global, text: &str, to: &mut Vec<u8>) -> Result<(), TextFault> {
     let mut rest = text.as_bytes();
     for _ in 0..text.len() {
@@ -163,7 +163,7 @@ pub fn text_of(alloc: Global, text: &str) -> Result<Vec<u8>, TextFault> {
     Ok(bytes)
 }
 
-/// Formats bytes as the text of a case on one line. Backslashes and bytes that are not printable become escapes.
+/// Formats bytes as the text of a case on one line. Backslashes and all bytes but printable ASCII become escapes.
 pub fn shown(alloc: Global, bytes: &[u8]) -> Result<String, AllocError> {
     let mut text = String::new(alloc);
     for byte in bytes {

@@ -127,7 +127,7 @@ impl<'a> PlainHead<'a> {
         })
     }
 
-    // Returns the content length, unless it is invalid or a Transfer-Encoding header overrides it.
+    // Returns the content length, or `None` if it is absent or invalid, or if a Transfer-Encoding header overrides it.
     fn length(&self) -> Option<usize> {
         match self.value("Transfer-Encoding") {
             Some(_) => None,
@@ -135,13 +135,15 @@ impl<'a> PlainHead<'a> {
         }
     }
 
-    // Returns whether the body has no known length: it is chunked, or the rest of the stream.
+    // Returns whether the body has no known length: it has a transfer coding, or it is the rest of the stream, since an
+    // upgrade is asked for.
     fn is_endless(&self) -> bool {
         self.value("Transfer-Encoding").is_some() || self.tells("upgrade")
     }
 
     // Returns whether the request is returned or answered with a 505: its first Expect header asks for a 100 and
-    // nothing else, or there is none and a body of at most `SHORT` bytes is complete.
+    // nothing else, or there is no such header and the body is complete, is longer than `SHORT` bytes, or has no known
+    // length.
     fn is_whole(&self) -> bool {
         let length = self.length().unwrap_or(0);
         match self.value("Expect") {
@@ -150,7 +152,7 @@ impl<'a> PlainHead<'a> {
         }
     }
 
-    // Returns whether the request is returned, and not answered with a 505.
+    // Returns whether the request is returned, and not answered with a 505 because of its version.
     fn is_known(&self) -> bool {
         !matches!(self.request.version, "2.0" | "3.0")
     }
@@ -161,7 +163,8 @@ impl<'a> PlainHead<'a> {
         ends || self.tells("close") || self.tells("upgrade")
     }
 
-    // Returns the bytes after the body, which the server discards, or `None` if the connection can't continue.
+    // Returns the bytes after the body, or `None` if the connection can't continue: the body has no known length, or it
+    // is incomplete. The server discards the body.
     fn after_body(&self) -> Option<&'a [u8]> {
         if self.is_endless() {
             return None;

@@ -31,7 +31,8 @@ struct StandardHead<'a> {
     behind: &'a [u8],
 }
 
-// Returns the first line and the bytes after it, or `None` if the line is incomplete or contains a NUL or another CR.
+// Returns the first line and the bytes after it, or `None` if there is no LF, if no CR precedes the first LF, or if the
+// line contains a NUL or another CR.
 fn line_of(bytes: &[u8]) -> Option<(&[u8], &[u8])> {
     let place = bytes.iter().position(|byte| *byte == b'\n')?;
     let line = bytes.get(..place)?.strip_suffix(b"\r")?;
@@ -83,7 +84,7 @@ fn is_host(text: &str) -> bool {
     }
 }
 
-// Returns whether `text` is a host, optionally followed by a colon and a port.
+// Returns whether `text` is a host, optionally followed by a colon and a port, which may be empty.
 fn is_host_with_port(text: &str) -> bool {
     if is_host(text) {
         return true;
@@ -97,7 +98,7 @@ fn is_host_value(value: &str) -> bool {
     value.is_empty() || is_host_with_port(value)
 }
 
-// Returns whether `target` is a host, a colon, and a port from 1 to 65535.
+// Returns whether `target` is a host, a colon, and a port from 1 to 65,535.
 fn is_authority(target: &str) -> bool {
     let Some((host, digits)) = target.rsplit_once(':') else {
         return false;
@@ -331,7 +332,7 @@ impl<'a> StandardHead<'a> {
         }
     }
 
-    // Returns whether the server owes the client a 100: the request has a body, is not HTTP/1.0, and expects one.
+    // Returns whether the server owes the client a 100: the request has a body, is not HTTP/1.0, and expects a 100.
     fn owes_a_100(&self, body: Body) -> bool {
         let has_body = !matches!(body, Body::Nothing | Body::Length(0));
         has_body && !self.is_old() && self.lists("Expect", "100-continue")

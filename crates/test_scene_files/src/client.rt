@@ -9,8 +9,8 @@ use std::time::{Clock, Duration, Instant};
 use std::{io, mem, thread};
 use tiny_http_socket::connection::{Connection, ListenAddr};
 
-// Maximum number of reads that wait for expected bytes. Each lasts some milliseconds, depending on the system's
-// scheduler; together they last at least ten seconds.
+// Maximum number of reads that wait for expected bytes. A read that gets none lasts some milliseconds, depending on the
+// system's scheduler; if each lasts four, all of them together last ten seconds.
 const READS: u32 = 2_500;
 
 // Size of the read buffer.
@@ -19,7 +19,8 @@ const PIECE: usize = 16_384;
 // Maximum number of sends by a client that expects to be cut off.
 const MOST_PIECES: u32 = 4_096;
 
-// A client's thread counts as delayed if at least this many milliseconds pass between two of its sends.
+// A client's thread counts as delayed if at least this many milliseconds pass before the end of its first send, or
+// between the ends of two successive sends.
 const HELD_UP: u64 = 200;
 
 // Number of reads by a client that sips.
@@ -52,7 +53,8 @@ pub struct Client {
     seen: (Vec<u8>, Vec<u8>),
 }
 
-/// Copies `bytes`, replacing each Date field line with the one that all scenes share.
+/// Copies `bytes`, replacing each Date field line, that is, each `Date: ` and the 29 bytes after it, with the one that
+/// all scenes share.
 pub fn dated(alloc: Global, bytes: &[u8]) -> Result<Vec<u8>, AllocError> {
     let mut all = Vec::new(alloc);
     let mut rest = bytes;
@@ -93,7 +95,8 @@ pub fn millis_since<R: Clock>(rt: &R, begun: Instant) -> Result<u64, Mishap> {
     }
 }
 
-// Connects to `addr`. A read then waits for at most a millisecond, and a write for at most ten seconds.
+// Connects to `addr`, and turns off delays of small writes (`TCP_NODELAY`). The read timeout is one millisecond, the
+// write timeout ten seconds.
 fn connect_to<R: Net<Listener = TcpListener, Stream = TcpStream>>(
     rt: &R,
     addr: &ListenAddr,
@@ -127,7 +130,7 @@ impl Client {
         }
     }
 
-    /// Returns the local address of a TCP client.
+    /// Returns the client's local address, or `None` if it uses a Unix socket or the system reports no address.
     pub fn local_addr(&self) -> Option<std::net::SocketAddr> {
         match &self.socket {
             Connection::Tcp(stream) => stream.local_addr().ok(),
@@ -135,7 +138,7 @@ impl Client {
         }
     }
 
-    // Reads once, waiting for at most a millisecond, and keeps the bytes or how the connection ended.
+    // Reads once, until the read timeout at most, and keeps the bytes or how the connection ended.
     fn read_once(&mut self) -> Result<(), AllocError> {
         let mut piece = [0u8; PIECE];
         match self.socket.read_shared(&mut piece) {
@@ -218,10 +221,10 @@ impl Client {
         Ok((false, last, longest))
     }
 
-    /// Sends `bytes` every `millis` milliseconds, even after the end of input, until a send fails. The failure must
-    /// come at least `least` milliseconds after `begun`, and before the pauses add up to more than `most` milliseconds.
-    /// An earlier failure is accepted if this thread was delayed before a send, since a server that waits for the next
-    /// byte may then have timed out.
+    /// Sends `bytes` every `millis` milliseconds, even after the end of input, until a send fails. One of the first
+    /// `most / millis` sends (`most` sends if `millis` is 0) must fail, and not earlier than `least` milliseconds after
+    /// `begun`. An earlier failure is accepted if this thread was delayed by `HELD_UP` milliseconds, since a server
+    /// that waits for the next byte may then have timed out.
     pub fn drip_on<R: Clock>(
         &mut self,
         rt: &R,

@@ -16,14 +16,15 @@ pub enum ClientDeed<'a> {
     /// Sends this text repeatedly until the connection ends, with this pause in milliseconds.
     Drips(&'a str, u64),
     /// Sends this text repeatedly, even after the end of input, until a send fails; the second field is the pause in
-    /// milliseconds. The failure must come once the scene's clock shows at least the first number of the pair, and
-    /// before the pauses add up to more than the second number, both in milliseconds.
+    /// milliseconds. The pair bounds the time of the failure in milliseconds, as `least` and `most` do in
+    /// `Client::drip_on`, where `begun` is the start of the scene's clock.
     DripsOn(&'a str, u64, (u64, u64)),
     /// Sends this text repeatedly until a send fails, and expects such a failure.
     IsCutOff(&'a str),
-    /// Reads at most this many bytes a hundred times, with this pause in milliseconds before each read.
+    /// Reads at most this many bytes a hundred times, or until the end of input, with this pause in milliseconds before
+    /// each read.
     Sips(usize, u64),
-    /// Expects this text as the next bytes.
+    /// Expects this text as the next bytes, once `client::dated` has replaced the dates among them.
     Gets(&'a str),
     /// Expects that the last date in the text of the last `Gets` differs from the last date in the text of the `Gets`
     /// before that.
@@ -31,7 +32,8 @@ pub enum ClientDeed<'a> {
     /// Expects that the last date in the text of the last `Gets` is the current time, or at most this many seconds
     /// earlier.
     DatedWithin(u64),
-    /// Expects at least the first and at most the second number of bytes before the connection ends.
+    /// Reads until the connection ends, as `Client::counts` does, and expects at least the first and at most the second
+    /// number of bytes that no earlier step has checked.
     Counts(usize, usize),
     /// Expects neither bytes nor the end of the connection for this many milliseconds.
     IsIdle(u64),
@@ -88,7 +90,7 @@ pub enum ServerDeed<'a> {
     AcceptFaults(u64),
     /// Opens the handler's gate, so that a call of the handler that waits at it continues.
     OpensGate,
-    /// Expects that the file of the Unix socket exists, or that it doesn't.
+    /// Expects that the file of the Unix socket exists if the flag is true, and that it doesn't otherwise.
     File(bool),
     /// Gives the file of the Unix socket a second name: a hard link.
     LinksFile,
@@ -108,7 +110,8 @@ pub enum ServerDeed<'a> {
     /// Creates a server from two addresses, that of the scene's server, which is in use, and one with any free port,
     /// and expects that the new server does not listen at the first.
     AtSecond,
-    /// Expects that the server's Unix address is displayed as the path of its socket.
+    /// Expects that the server's Unix address is displayed as the path of its socket in quotes, followed by
+    /// `(pathname)`.
     ShowsPath,
 }
 
@@ -117,11 +120,11 @@ pub enum ServerDeed<'a> {
 pub enum Found {
     /// A socket on which nobody listens.
     Stale,
-    /// A socket on which another server listens.
+    /// A socket that already has a listener.
     Live,
     /// A file that is not a socket.
     Plain,
-    /// A link to a socket on which nobody listens.
+    /// A symbolic link to a socket on which nobody listens.
     Link,
 }
 
@@ -137,7 +140,7 @@ pub enum Data<'a> {
     Bytes(usize),
     /// This many bytes, without a content length.
     Unsized(usize),
-    /// This text, with this greater content length.
+    /// This text, with this number as the stated content length.
     Short(usize, &'a str),
 }
 
@@ -172,13 +175,14 @@ pub enum RequestDeed<'a> {
     AsReader,
     /// Expects that the request's first header field of this name has this value, or that it has no such field.
     Header(&'a str, Option<&'a str>),
-    /// Expects that the request's header fields of this name list this token, or that they don't.
+    /// Expects that the request's header fields of this name list this token if the flag is true, and that they don't
+    /// otherwise.
     Lists(&'a str, &'a str, bool),
     Path(&'a str),
     Query(Option<&'a str>),
-    /// Expects that the request asks for an upgrade, or that it doesn't.
+    /// Expects that the request asks for an upgrade if the flag is true, and that it doesn't otherwise.
     AsksUpgrade(bool),
-    /// Expects that the request came over TLS, or that it didn't.
+    /// Expects that the request came over TLS if the flag is true, and that it didn't otherwise.
     IsSecure(bool),
     Version(&'a str),
     Length(Option<u64>),
@@ -204,7 +208,7 @@ pub enum RequestDeed<'a> {
     TriesUpgrade(&'a str, &'a str),
     /// Expects that `try_upgrade` to this protocol returns the request for this reason.
     KeepsUpgrade(&'a str, Kept),
-    /// Expects that a response to the request would be lost, or that it wouldn't.
+    /// Expects that a response to the request would be lost if the flag is true, and that it wouldn't otherwise.
     IsLost(bool),
 }
 
@@ -223,9 +227,9 @@ pub enum Whole<'a> {
 pub enum OutputDeed<'a> {
     Write(&'a str, Option<ErrorKind>),
     Flush(Option<ErrorKind>),
-    /// Closes a raw writer, or finishes a streaming response.
+    /// Closes a raw writer, finishes a streaming response, or drops an upgraded stream.
     Close(Option<ErrorKind>),
-    /// Expects this text from a read of an upgraded stream.
+    /// Expects this text as the next bytes of an upgraded stream.
     Read(&'a str),
     /// Expects that a read of an upgraded stream fails with this error.
     ReadFails(ErrorKind),
@@ -245,7 +249,7 @@ pub enum Deed<'a> {
     Memory(MemoryDeed<'a>),
     Turns(TurnsDeed<'a>),
     Turn(&'a str, TurnDeed<'a>),
-    /// Uses up all but this many of the process's file descriptors, or releases them again.
+    /// Uses up the process's file descriptors except this many, or, if `None`, releases those that were used up.
     Descriptors(Option<usize>),
     /// Waits for this many milliseconds.
     Pause(u64),

@@ -126,7 +126,7 @@ fn version_in(text: &str) -> Option<(u8, u8)> {
     Some((major, u8::try_from(number_in(minor)?).ok()?))
 }
 
-// Parses the parts of a request: `METHOD TARGET VERSION`, and any further ones.
+// Parses the parts of a request: `METHOD TARGET VERSION`, and any further parts after ` + `.
 fn parts_in(text: &str) -> Option<Parts<'_>> {
     let (line, more) = text.split_once(" + ").unwrap_or((text, ""));
     let (method, rest) = line.split_once(' ')?;
@@ -214,7 +214,7 @@ pub(crate) fn turns_deed(text: &str) -> Option<TurnsDeed<'_>> {
 pub enum TurnDeed<'a> {
     /// Expects this text from one read.
     Reads(&'a str),
-    /// Writes this text in one call, and expects that it accepts this many bytes.
+    /// Writes this text in one call, and expects that the call accepts this many bytes.
     Writes(&'a str, usize),
     WriteFails(&'a str, ErrorKind),
     Flushes,

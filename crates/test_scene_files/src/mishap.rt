@@ -85,8 +85,8 @@ const SHOWN: usize = 200;
 // Maximum number of bytes shown of a text that precede its first difference.
 const SHOWN_BEFORE: usize = 60;
 
-// Formats at most `SHOWN` bytes of a text from byte `from` on. If that is not the whole text, adds its length and
-// `from`.
+// Formats at most `SHOWN` bytes of a text from byte `from` on. If that is not the whole text, adds `from` and the
+// length of the whole text.
 fn part_shown(alloc: Global, bytes: &[u8], from: usize) -> Result<String, AllocError> {
     let part = bytes.get(from..).unwrap_or_default();
     let part = part.get(..SHOWN).unwrap_or(part);

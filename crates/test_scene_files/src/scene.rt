@@ -49,7 +49,7 @@ pub struct Ground {
     pub is_alone: bool,
     /// Whether the scene must fail.
     pub has_to_fail: bool,
-    /// How often the scene is played.
+    /// How often the scene is played in each of its ways.
     pub repeats: usize,
 }
 
@@ -77,7 +77,8 @@ pub struct SceneFile {
     pub scenes: Vec<Scene>,
 }
 
-// Sets the limit called `name`. Returns `None` if there is no such limit.
+// Sets the limit called `name` to `number`: milliseconds if the limit is a time. Returns `None` if there is no such
+// limit.
 fn set_limit(limits: &mut Limits, name: &str, number: usize) -> Option<()> {
     let time = Duration::from_millis(number as u64);
     match name {
@@ -159,7 +160,7 @@ struct Begun {
     lines: Vec<Line>,
 }
 
-// Adds the scene being read, if any, to `scenes`. Fails if it has no server or no step.
+// Adds the scene being read, if any, to `scenes`. Fails if it has no ground or no step.
 fn add_scene(scenes: &mut Vec<Scene>, begun: Option<Begun>) -> Result<(), LineFault> {
     let Some(begun) = begun else {
         return Ok(());
@@ -184,8 +185,8 @@ fn add_scene(scenes: &mut Vec<Scene>, begun: Option<Begun>) -> Result<(), LineFa
     Ok(())
 }
 
-// Returns whether an indented line may follow `lines`: the last of them begins with `beside` or `job`, or is indented
-// itself.
+// Returns whether an indented line may follow `lines`, that is, whether the last of them begins with `beside` or `job`,
+// or is indented itself.
 fn may_be_inner(lines: &[Line]) -> bool {
     lines.last().is_some_and(|line| {
         let text = line.text.as_str();
@@ -244,7 +245,7 @@ fn begin(alloc: Global, scenes: &[Scene], name: &str) -> Result<Begun, LineFault
     })
 }
 
-// Reads one line: a comment, the start of a scene, or a line of the current scene.
+// Reads one line: an empty line, a comment, the start of a scene, or a line of the current scene.
 fn read_line(
     alloc: Global,
     (scenes, begun): (&mut Vec<Scene>, &mut Option<Begun>),

@@ -9,7 +9,7 @@ use tiny_http_io::outlet::Outlet;
 use tiny_http_request::request::{Body, Request, StreamedBody};
 use tiny_http_threads::sequential::SequentialWriter;
 
-/// An output to which a response is written piece by piece.
+/// An output of a request: its raw writer, its streaming response, or the stream of its upgraded connection.
 #[derive(Drop)]
 pub enum Output<D: ReadDevice + Drop, W: WriteDevice + Drop, R: Wait + Drop> {
     Raw(SequentialWriter<Outlet<W>, R>),

@@ -276,7 +276,7 @@ fn give<R: Wait + Clock + Copy>(
     add(alloc, &mut props.remembered.requests, name, request)
 }
 
-/// Runs a step on the client over memory, or builds a request over memory.
+/// Runs a step on a connection or a request over memory.
 pub fn act_memory<R: Wait + Clock + Copy>(
     rt: &R,
     alloc: Global,

@@ -72,7 +72,8 @@ impl<R: Wait + Drop> Props<R> {
         }
     }
 
-    /// Returns the client over memory and what was written to it. Fails if the scene doesn't run over memory.
+    /// Returns the client over memory and the bytes written so far. Fails if the scene doesn't run over memory, and in
+    /// the props of a thread, which have neither.
     pub fn memory(&mut self) -> Result<&mut Memory<R>, Mishap> {
         match &mut self.memory {
             Some(memory) => Ok(memory),
@@ -88,8 +89,8 @@ impl<R: Wait + Drop> Props<R> {
         }
     }
 
-    /// Takes out the props that `lines` need: the clients, requests, outputs, readers and writers that they name, and
-    /// another handle to the queue.
+    /// Takes out the props that `lines` need: the clients, the requests and outputs over memory, and the readers and
+    /// writers that they name. If there is a queue, adds another handle to it.
     pub fn part(&mut self, alloc: Global, lines: &[Line]) -> Result<Props<R>, AllocError> {
         let mut theirs = Props::none(alloc);
         if let Some(queue) = &self.queue {

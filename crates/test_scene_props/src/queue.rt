@@ -6,7 +6,7 @@ use test_scene_files::grounds::{Popped, QueueDeed};
 use test_scene_files::mishap::{Mishap, differs};
 use tiny_http_threads::messages_queue::MessagesQueue;
 
-// Maximum number of values that `pop_past` skips.
+// Maximum number of pops by `pop_past`.
 const MOST_PASSED: u32 = 1_000;
 
 // Compares the result of a pop with the expected one.
@@ -29,8 +29,8 @@ fn demand_popped(alloc: Global, wanted: Popped, came: Option<u64>) -> Result<(),
     Err(differs(alloc, wanted.as_str(), came.as_str()))
 }
 
-// Pops until the result is not `passed`, and returns it. Returns `passed` if `MOST_PASSED` pops returned it. `most`, if
-// set, limits the time of each pop.
+// Pops until the result is not `passed`, and returns that result, or `passed` if all of `MOST_PASSED` pops returned it.
+// `most`, if set, limits the time of each pop.
 fn pop_past<R: Wait + Clock>(
     rt: &R,
     queue: &MessagesQueue<u64>,

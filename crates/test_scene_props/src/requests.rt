@@ -22,7 +22,8 @@ use tiny_http_wire::response::Response;
 // Maximum number of reads of a body.
 const READS: u32 = 100_000;
 
-/// Returns the current date as a server sends it: that of Unix second 0 if the clock can't be read or is out of range.
+/// Returns the current date as a server sends it: that of Unix second 0 if the clock can't be read, or if its time is
+/// out of range.
 pub fn date_now<R: Clock>(rt: &R) -> HttpDate {
     let seconds = rt.since_1970().map_or(0, |time| time.as_secs());
     match HttpDate::from_unix_secs(seconds) {
@@ -86,7 +87,7 @@ fn respond_json<D: ReadDevice + Drop, W: WriteDevice + Drop, R: Wait + Clock + D
     Ok(request.respond(response, date_now(rt)))
 }
 
-// Responds with this status and without a body, and closes the connection if `is_last`.
+// Responds with this status and without a body. If `is_last`, the connection closes after the response.
 fn respond_empty<D: ReadDevice + Drop, W: WriteDevice + Drop, R: Wait + Clock + Drop>(
     rt: &R,
     alloc: Global,
@@ -100,8 +101,8 @@ fn respond_empty<D: ReadDevice + Drop, W: WriteDevice + Drop, R: Wait + Clock + 
     request.respond(response, date_now(rt))
 }
 
-// Responds with this status and `count` bytes. If `is_sized`, the response states their content length and is never
-// sent in chunks; otherwise it states none.
+// Responds with this status and `count` bytes. If `is_sized`, the response is built with their content length and is
+// never sent in chunks; otherwise it is built without a content length.
 fn respond_bytes<D: ReadDevice + Drop, W: WriteDevice + Drop, R: Wait + Clock + Drop>(
     rt: &R,
     alloc: Global,
@@ -261,8 +262,8 @@ fn demand_property(
     demand(alloc, words, came == wanted)
 }
 
-// Checks one property of a request: a header field, its path or query, or whether it asks for an upgrade, can't be
-// answered any more, or came over TLS. Passes any other step on to `look_whole`.
+// Checks one property of a request: a header field, a token that its header fields list, its path or query, or whether
+// it asks for an upgrade, came over TLS, or would lose its response. Passes any other step on to `look_whole`.
 fn look<D: ReadDevice + Drop, W: WriteDevice + Drop, R: Wait + Clock + Drop>(
     alloc: Global,
     request: &Request<D, W, R>,
@@ -385,7 +386,7 @@ pub fn act_asked<D: ReadDevice + Drop, W: WriteDevice + Drop, R: Wait + Clock + 
     }
 }
 
-// Runs a step that keeps the request: reads its body, or checks its head.
+// Runs a step that keeps the request: reads its body, calls `as_reader`, or checks one of its properties.
 fn read_request<D: ReadDevice + Drop, W: WriteDevice + Drop, R: Wait + Clock + Drop>(
     rt: &R,
     alloc: Global,

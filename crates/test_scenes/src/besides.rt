@@ -30,7 +30,7 @@ pub(crate) struct Done<R: Net + SocketFiles + Wait + Clock + Drop> {
 #[derive(Drop)]
 enum Player<R: Net + SocketFiles + Wait + Clock + Drop> {
     Thread(JoinHandle<Done<R>>),
-    /// A pool job. When it is done, it pushes its failure here, or `None`.
+    /// A pool job. When it is done, it pushes its failure here, or `None` if no step failed.
     Job(Arc<MessagesQueue<Option<Failure>>>),
 }
 
@@ -70,7 +70,7 @@ fn add_beside<R: Host>(
     Ok(stage.besides.push(beside).map_err(AllocError::from)?)
 }
 
-/// Starts a thread called `name` that plays `lines`.
+/// Starts a thread called `name` that plays `lines`, with what they need from the stage's hands (`Hands::part`).
 pub(crate) fn begin<R: Host>(
     rt: &R,
     alloc: Global,
@@ -147,8 +147,8 @@ fn comes_true<R: Host>(rt: &R, is_so: &AtomicBool, millis: u64) -> bool {
     is_so.load(Ordering::SeqCst)
 }
 
-/// Waits until the thread or job called `name` ends, and returns its failure, if any. Fails if it takes more than
-/// `millis` milliseconds.
+/// Waits until the thread or job called `name` ends, and returns its failure, if any. Fails if there is none of this
+/// name, or if it takes more than `millis` milliseconds.
 pub(crate) fn end<R: Host>(
     rt: &R,
     alloc: Global,
@@ -169,7 +169,8 @@ pub(crate) fn end<R: Host>(
     Ok(join(rt, stage, beside))
 }
 
-/// Expects that the thread or job called `name` has not ended after `WATCHED` milliseconds.
+/// Expects that the thread or job called `name` has not ended after `WATCHED` milliseconds. Fails if there is none of
+/// this name.
 pub(crate) fn wait<R: Host>(
     rt: &R,
     alloc: Global,

@@ -12,7 +12,7 @@ use tiny_http::response::Response;
 use tiny_http::server::{ServerRequest, current_date};
 use tiny_http::serving::Handler;
 
-// Maximum time in milliseconds that a handler waits at its gate.
+// Maximum number of pauses of a millisecond with which a handler waits at its gate.
 const LONGEST: u32 = 10_000;
 
 // Length of the body of a response to `/long`.
@@ -28,7 +28,7 @@ pub(crate) struct ByPath<R: Wait + Clock + Drop> {
     pub gate: Arc<AtomicBool>,
 }
 
-// Responds with the request target as the body, and closes the connection if `is_last`.
+// Responds with the request target as the body. If `is_last`, the connection closes after the response.
 fn answer_path<R: Wait + Clock + Drop>(
     rt: &R,
     alloc: Global,
@@ -54,7 +54,7 @@ fn echo<R: Wait + Clock + Drop>(
     request.respond(Response::from_data(alloc, body), current_date(rt))
 }
 
-// Upgrades the request to a protocol in which the server sends `hello` and nothing else.
+// Upgrades the request to a protocol in which the server sends `hello` and nothing else. Ignores a refused upgrade.
 fn greet<R: Wait + Clock + Drop>(
     rt: &R,
     alloc: Global,
@@ -68,7 +68,7 @@ fn greet<R: Wait + Clock + Drop>(
     stream.flush()
 }
 
-// Waits until the gate is open, for at most `LONGEST` milliseconds.
+// Waits until the gate is open, with at most `LONGEST` pauses of a millisecond.
 fn wait_at<R: Clock>(rt: &R, gate: &AtomicBool) {
     for _ in 0..LONGEST {
         if gate.load(Ordering::SeqCst) {
@@ -78,7 +78,7 @@ fn wait_at<R: Clock>(rt: &R, gate: &AtomicBool) {
     }
 }
 
-// Responds with a streaming body: `a`, which is flushed, and `b` after the gate opens.
+// Responds with a streaming body: `a`, which is flushed, and `b` after `wait_at`.
 fn grow<R: Wait + Clock + Drop>(
     rt: &R,
     alloc: Global,
@@ -109,10 +109,11 @@ fn write_long<R: Wait + Clock + Drop>(
 
 impl<R: Wait + Clock + Drop> Handler<R, ServerRequest<R>> for ByPath<R> {
     /// Keeps the request if its target is `/keep` or `keeps_all` is set. Otherwise drops it for `/drop` and
-    /// `/drop-err`, responds with its body for `/echo`, in two pieces for `/grow`, with `LONG` bytes for `/long`, with
-    /// three of ten stated bytes for `/short`, and upgrades it for `/greet`. Responds to any other request with its
-    /// target as the body: for `/wait` once the gate is open, and for `/close` with a response that closes the
-    /// connection. Returns an error for `/err`, after the response, and for `/drop-err`.
+    /// `/drop-err`, responds with the request's body for `/echo`, in two pieces for `/grow`, with `LONG` bytes for
+    /// `/long`, with three of ten stated bytes for `/short`, and upgrades it for `/greet`. Responds to any other
+    /// request with its target as the body: for `/wait` after `wait_at`, and for `/close` with a response that closes
+    /// the connection. Returns an error for `/err`, after the response, for `/drop-err`, and if reading or responding
+    /// fails.
     fn handle(&self, rt: &R, alloc: Global, request: ServerRequest<R>) -> io::Result<()> {
         let path = request.url();
         if self.keeps_all.load(Ordering::SeqCst) || path == "/keep" {

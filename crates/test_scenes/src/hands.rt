@@ -24,7 +24,7 @@ pub(crate) struct Hands<R: Net + SocketFiles + Wait + Clock + Drop> {
     pub handler: Arc<ByPath<R>>,
     pub way: Way,
     pub served: Served<R>,
-    /// What the steps act on that needs no server.
+    /// What the steps act on apart from the server and its requests.
     pub props: Props<R>,
     /// File descriptors that are held so that the process has few left.
     pub taken: Vec<OwnedFd>,

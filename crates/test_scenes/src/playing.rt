@@ -198,7 +198,7 @@ fn clear<R: Host>(rt: &R, alloc: Global, stage: &mut Stage<R>) -> Result<(), Mis
     )
 }
 
-// Plays a scene once, in this way. Returns the failure, if any.
+// Plays a scene once, in the way `way`. A scene over `unix` binds its socket at `path`. Returns the failure, if any.
 fn play_once<R: Host>(
     rt: &R,
     alloc: Global,

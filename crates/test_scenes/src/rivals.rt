@@ -1,4 +1,5 @@
-//! Creates servers besides that of the scene: at the same address, at a path where a file exists, or with TLS.
+//! Creates servers besides that of the scene: at the same address, from two addresses, at a path where a file exists,
+//! or with TLS. Also checks how a Unix address is displayed.
 use crate::hands::Hands;
 use crate::links::Host;
 use crate::serving::{Place, config_of, path_beside, path_in};
@@ -135,7 +136,7 @@ fn demand_made_at<R: Host>(
     demand(alloc, "what was there is still there", is_there)
 }
 
-// Creates a server with TLS at `addr`.
+// Tries to create a server with TLS at `addr`, with an empty certificate and an empty key.
 fn with_tls<R: Host>(
     rt: &R,
     alloc: Global,
@@ -152,7 +153,7 @@ fn with_tls<R: Host>(
     Server::new(*rt, alloc, config)
 }
 
-// Creates a server with TLS at `addr`, the address of the scene's server.
+// Tries to create a server with TLS at `addr`, the address of the scene's server.
 fn rival_with_tls<R: Host>(
     rt: &R,
     alloc: Global,
@@ -216,7 +217,8 @@ fn demand_second<R: Host>(rt: &R, alloc: Global, addr: &ListenAddr) -> Result<()
     demand(alloc, "it is at another address", is_another)
 }
 
-// Expects that the server reports a Unix address, which is displayed as the path of its socket.
+// Expects that the server reports a Unix address, which is displayed as the path of its socket in quotes, followed by
+// `(pathname)`.
 fn demand_shown<R: Host>(
     alloc: Global,
     server: &Server<R>,

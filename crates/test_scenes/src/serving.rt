@@ -170,8 +170,8 @@ pub(crate) fn take_descriptors<R: Host>(
     Ok(())
 }
 
-// Compares the result of a call that receives a request with the expected one. If a request was expected, adds it under
-// its name.
+// Compares the result of a call that receives a request with the expected one. If the expected request came, adds it
+// under its name.
 fn take_given<R: Host>(
     alloc: Global,
     hands: &mut Hands<R>,
@@ -227,8 +227,8 @@ fn received<R: Host>(hands: &Hands<R>) -> Result<io::Result<Option<ServerRequest
     })
 }
 
-// Calls `try_recv` once if no request is expected, and otherwise until it returns a request or an error, at most
-// `TURNS` times.
+// Calls `try_recv` once if `nothing` is expected, and otherwise until it returns a request or an error, at most `TURNS`
+// times.
 fn tried<R: Host>(
     rt: &R,
     hands: &Hands<R>,
@@ -382,7 +382,8 @@ fn stop<R: Host>(
     demand_text(alloc, wanted, came)
 }
 
-// Drops the server. Fails if there is none.
+// Drops the scene's handle to the server, and with it the server unless a thread has another handle. Fails if there is
+// none.
 fn let_go<R: Host>(hands: &mut Hands<R>) -> Result<(), Mishap> {
     match hands.server.take() {
         Some(server) => {

@@ -15,11 +15,12 @@ use tiny_http_socket::cork::Cork;
 // Number of rounds, in each of which both threads begin at once.
 const ROUNDS: usize = 1_000;
 
-// Length in bytes of the piece that is written after the byte.
+// Length in bytes of the piece that is written after the first byte of a round.
 const LENGTH: usize = 8_000;
 
 // In each round, writes a byte, which stays in the buffer, and then a long piece while the other thread sends the byte;
-// then flushes. In every other round the byte is flushed before the piece, which leaves it in the buffer, too.
+// then flushes. In every other round, also flushes between the byte and the piece; this flush leaves the byte in the
+// buffer, too.
 fn write_rounds<R: Host>(rt: &R, mut writer: HalfWriter<R>, barrier: &Barrier) {
     let piece = [b'b'; LENGTH];
     for round in 0..ROUNDS {

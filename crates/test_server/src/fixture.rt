@@ -14,7 +14,7 @@ use tiny_http::server::{Server, ServerRequest, ServerRuntime, current_date};
 // Maximum number of reads of 1 ms each before reading fails with a timeout.
 pub const TURNS: u32 = 10_000;
 
-/// The first field lines of every response, without the value of `Date`.
+/// The `Server` and `Date` field lines of a response, without the value of `Date`.
 pub const DATED: &str = "Server: tiny-http (Rust)\r\nDate: \r\n";
 
 /// A runtime with what a server and its clients need, which can abort a test that fails.
@@ -46,7 +46,7 @@ pub fn send<S: Write>(rt: &impl Abort, stream: &mut S, text: &str) {
     send_bytes(rt, stream, text.as_bytes());
 }
 
-/// Reads once, retrying up to `TURNS` timeouts.
+/// Reads once. Repeats a read that times out; after `TURNS` such reads, fails with `TimedOut`.
 pub fn read_once<S: Read>(stream: &mut S, buf: &mut [u8]) -> io::Result<usize> {
     for _ in 0..TURNS {
         match stream.read(buf) {

@@ -263,7 +263,7 @@ fn failures_are_counted(rt: HostRuntime) {
     assert_failures(&rt, rt.alloc());
 }
 
-// Asserts that a listener accepts this client, and returns the client's address.
+// Asserts that a listener accepts this client and reports the client's address.
 fn assert_accepts(rt: &impl Abort, listener: &Listener, client: &TcpStream) {
     let wanted = client.local_addr().expect(rt, "an address");
     let (connection, from) = listener.accept().expect(rt, "a connection");
@@ -272,7 +272,7 @@ fn assert_accepts(rt: &impl Abort, listener: &Listener, client: &TcpStream) {
     assert_same(rt, peer, from);
 }
 
-// Asserts how the address of a TCP listener is displayed, and that the listener returns the address of a client.
+// Asserts how the address of a TCP listener is displayed, and that the listener reports the address of a client.
 fn assert_addresses_of_tcp<R: Host>(rt: &R, alloc: Global) {
     let listener = TcpListener::bind(rt, "127.0.0.1:0").expect(rt, "a listener");
     let listener = Listener::from(listener);

@@ -73,7 +73,7 @@ fn pair_of<R: Host>(rt: &R, alloc: Global) -> Pair<R> {
     }
 }
 
-// Returns the next request. Unless flushes may leave bytes buffered, sends the buffered bytes first, as a worker of
+// Receives the next request. Then sends the buffered bytes, unless flushes may leave bytes buffered, as a worker of
 // `serve` does.
 fn next_of<R: Host>(rt: &R, pair: &mut Pair<R>) -> Request<HalfReader, HalfWriter<R>, R> {
     let next = pair.client.next(current_date(rt)).expect(rt, "memory");

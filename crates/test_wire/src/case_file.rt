@@ -16,7 +16,7 @@ use test_data_files::fault::FilesFault;
 use test_data_files::program::NamedFile;
 use tiny_http_wire::device::ReadDevice;
 
-// Invalid files, each with the number of its first invalid line, and why that line is invalid.
+// Invalid files, each with the number of the line at which reading fails, and the reason.
 const BAD: &[(&str, usize, &str)] = &[
     ("", 1, "there is no case"),
     ("# a\n", 2, "there is no case"),
@@ -223,8 +223,8 @@ const DIFFERENCES: &[(Found, bool, &str)] = &[
         false,
         "failures: 1, 0",
     ),
-    // After an injected failure a prefix of the output is enough. Only the reply to a write or a response may report
-    // the failure.
+    // After an injected failure a prefix of the output is enough. Only the reply to a response, a write or a flush may
+    // report the failure.
     (
         Found {
             failures: 1,
@@ -506,7 +506,7 @@ fn a_plain_reading_differs(rt: HostRuntime) -> Result<(), Fail> {
     Ok(())
 }
 
-// The fault injected into a case, if any, the results of the next three reads, and how a report describes the trial.
+// The fault injected into a case, if any, the results of the first three reads, and how a report describes the trial.
 type HarmRow = (
     Option<Harm>,
     &'static [Result<&'static str, ErrorKind>],

@@ -1,4 +1,4 @@
-//! Tests of `Metered` over a stream whose first call fails, and of `end_out`, which is passed on to an inner writer.
+//! Tests of `Metered` over a stream whose first call fails, and of `end_out`, which must reach an inner writer.
 use crate::same::assert_same;
 use std::io;
 use std::io::{ErrorKind, Read, Write};

@@ -1,5 +1,5 @@
 //! Tests of types and calls that use no threads: of `tiny_http_wire`, of what a client reads, and of the readers of
-//! case and scene files. Calls on bytes are tested by the rows of the program `test_calls`.
+//! case and scene files and the reports about them. Calls on bytes are tested by the rows of the program `test_calls`.
 #![tactic(auto)]
 
 #[cfg(test)]

@@ -7,7 +7,7 @@ use test_scene_files::deed::deed_in;
 use test_scene_files::scene::{Over, read_scenes};
 use tiny_http_body::framing::Profile;
 
-// Invalid files, each with the number of its first invalid line, and why that line is invalid.
+// Invalid files, each with the number of the line at which reading fails, and the reason.
 const BAD: &[(&str, usize, &str)] = &[
     ("", 1, "there is no scene"),
     ("# a\n", 2, "there is no scene"),

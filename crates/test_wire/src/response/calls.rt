@@ -67,7 +67,7 @@ fn calls_of(alloc: Global, minor: u8, length: Option<usize>) -> Result<(u64, u64
     Ok((data.calls, writes))
 }
 
-// A head of up to 512 bytes is one write. The data pass through a buffer of 8,192 bytes.
+// A head of up to 512 bytes is one write. The data pass through a buffer of 8192 bytes.
 #[test]
 fn data_of_known_length_are_sent_in_large_pieces(rt: HostRuntime) -> Result<(), Fail> {
     assert_same(&rt, calls_of(rt.alloc(), 1, Some(20_000))?, (3, 4));
