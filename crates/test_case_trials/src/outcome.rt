@@ -12,7 +12,7 @@ pub struct Outcome {
     pub output: Vec<u8>,
     /// Whether a call of the writer failed.
     pub has_failed: bool,
-    /// Number of failures of the writer that were counted.
+    /// Number of failed calls of the writer, as its `Metered` counts them, or the writer itself if it has none.
     pub failures: u64,
     /// Number of calls of the writer after the first failure.
     pub later: u64,
@@ -54,7 +54,7 @@ fn is_reported(step: &CaseStep, found: &[u8]) -> bool {
 }
 
 // Returns the first difference between the replies of a trial and those of its case. If a call failed by injection
-// (`is_failing`), one reply may report that failure.
+// (`is_failing`), one reply may report that failure, and any reply may differ as `is_unmet` allows.
 fn replies_differ(
     alloc: Global,
     case: &Case,
@@ -203,8 +203,8 @@ fn end_differs(
 
 /// Returns the first difference of a trial's outcome from its case, if any. If a call of the writer failed by
 /// injection, the output may be a prefix of the case's, one reply may report the failure, and errors of data that were
-/// not read may be missing. Exactly one failure must then be counted. Otherwise none must be, unless the case
-/// determines how its writer fails. The writer must never be called again after a failure.
+/// not read may be missing. Exactly one failure must then be counted. Otherwise no failure may be counted, unless
+/// the case determines how its writer fails. The writer must never be called again after a failure.
 pub fn first_difference(
     alloc: Global,
     case: &Case,

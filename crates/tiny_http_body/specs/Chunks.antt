@@ -1,4 +1,5 @@
--- A chunked body (RFC 9112, section 7.1), and the data of one that is cut or broken, under each of the two rules.
+-- A chunked body (RFC 9112, section 7.1), and the data of one that is cut or broken, under each of the two sets of
+-- rules (`ChunkRules`).
 use Rattle.std.specs.Prelude.{◌≡◌, ℕ, ◌+◌, ◌<◌, ◌≤◌, ◌⊎◌, Bool, false, ◌||◌, ◌==◌, nat_lt, List, [], ◌∷◌, ◌++◌}
 use Rattle.std.specs.Prelude.{length, take, flat_map, IsTrue}
 use Rattle.std.specs.List.{AllByRecursion, list_all}
@@ -76,7 +77,7 @@ pub record IsChunkBy (rules : ChunkRules) (c : Chunk) : Type 0 where
   pub sized : SizeTextBy rules c.size_line (length c.bytes)
   pub not_last : 0 < length c.bytes
 
--- whether the text is a last-chunk = "0" [ chunk-ext ] CRLF, without the CRLF
+-- whether the text is a last-chunk = 1*("0") [ chunk-ext ] CRLF, without the CRLF; at most 16 zeros
 abbrev pub IsLastLineBy : ChunkRules → List ℕ → Type 0
 IsLastLineBy rules text = IsShortLineBy rules text × SizeTextBy rules text 0
 

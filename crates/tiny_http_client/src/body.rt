@@ -18,7 +18,7 @@ use tiny_http_text::ascii::AsciiString;
 // The maximum number of bytes of a chunked body that are decoded at a time.
 const PIECE: usize = 1024;
 
-// Returns whether no body follows the head: in a response to a `HEAD`, a 204 or a 304.
+// Returns whether no body follows the head, as in a 204, a 304, or any response to a `HEAD`.
 fn has_no_body(method: &Method, status: StatusCode) -> bool
     ensures { result ≡ has_no_body method.now status.0 }
 {
@@ -63,7 +63,8 @@ fn content_length(headers: &[Header]) -> Option<usize>
     number_in(first_value(headers, "Content-Length")?.as_str().as_bytes())
 }
 
-// Converts the kind of a decoding error: `InvalidData` means malformed, and any other that the bytes end too early.
+// Converts the kind of a decoding error: `InvalidData` means malformed, and any other kind means that the bytes end too
+// early.
 fn chunk_fault(kind: ErrorKind) -> Fault
     ensures { result ≡ chunk_fault kind }
 {
@@ -103,8 +104,8 @@ fn read_counted(alloc: Global, length: usize, rest: &mut Rest<'_>) -> Result<Vec
     }
 }
 
-/// Reads the body that follows a head, as the method of the request and the head determine its extent. Fails with
-/// `Malformed` also if a body must follow and the head states neither chunks nor a valid length.
+/// Reads the body that follows a head. The request's method and the head determine its extent. Also fails with
+/// `Malformed` if a body must follow and the head states neither chunks nor a valid length.
 pub(crate) fn read_body(
     alloc: Global,
     method: &Method,

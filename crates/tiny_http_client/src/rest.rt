@@ -1,4 +1,4 @@
-//! A reader of bytes in memory, from whose front it takes a line or a given number of bytes.
+//! A reader of bytes in memory. It takes a line, or a given number of bytes, from their front.
 ghost use Rattle.std.specs.Prelude.{◌≡◌, ◌+◌, ◌<◌, ◌≤◌, ◌++◌, length, take, drop, Some, IfSome, IfNone};
 ghost use Rattle.tiny_http_text.specs.Lines.{Line, IsUnfinished};
 ghost use Rattle.tiny_http_io.specs.Device.{whole_feed};
@@ -30,7 +30,7 @@ fn split_line(bytes: &[u8]) -> Option<(&[u8], &[u8])>
     Some((&bytes[..n], &bytes[n + 2..]))
 }
 
-/// The bytes still to be read. Contracts see it as the list of these bytes.
+/// The bytes still to be read. Contracts see a `Rest` as the list of these bytes.
 #[derive(Drop)]
 pub(crate) struct Rest<'a> {
     bytes: &'a [u8],
@@ -59,7 +59,7 @@ impl<'a> Rest<'a> {
         self.bytes.len()
     }
 
-    /// Takes the first line and its CR LF, if the line is finished.
+    /// Takes the first line and its CR LF, if the line is finished, and returns the line without the CR LF.
     pub(crate) fn take_line(&mut self) -> Option<&'a [u8]>
         ensures some { IfSome result (λ text. Line self.old text.now self.new) }
         ensures none { IfNone result (IsUnfinished self.old) }

@@ -145,11 +145,11 @@ refuses_response r response =
 abbrev pub asks_protocol : Request → List ℕ → Bool
 asks_protocol r protocol = holds_next_head r && names_protocol r.message.headers protocol
 
--- whether the request's body has come whole, and was read to its end, came with its head or is empty
+-- whether the request's body has come whole, and either was read to its end, came with its head, or is empty
 abbrev pub is_body_whole : Request → Slot → Bool
 is_body_whole r s = is_body_finished r s && is_end r.body.stop
 
--- whether the request refuses the upgrade to this protocol with this response
+-- whether the request can't be upgraded to this protocol by this response
 abbrev pub refuses_upgrade : Request → Slot → List ℕ → ResponseValue → Bool
 refuses_upgrade r s protocol response =
     is_err

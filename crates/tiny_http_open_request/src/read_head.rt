@@ -33,7 +33,7 @@ fn head_of(message: MessageHead, framing: Framing) -> Head
     }
 }
 
-// Reads the head at the source's position, under the rules of tiny_http. After any result but a request the source may
+// Reads the head at the source's position, under `Lenient` or `Strict`. After any result but a request the source may
 // be within a head or its body.
 fn read_by_rules<R: ReadDevice>(
     alloc: Global,
@@ -128,14 +128,14 @@ fn end_at(input_state: InputState, why: EndOfRequests) -> EndOfRequests
 /// several faults apply, the first in this order decides: the first bad line, the size, the framing, the expectation, a
 /// cut body that is read with its head, the version.
 ///
-/// Under `Standard` `tiny_http_standard_head` reads the head. It is refused with 400, 408, 414, 417, 431, 501 or 505,
+/// Under `Standard`, `tiny_http_standard_head` reads the head. It is refused with 400, 408, 414, 417, 431, 501 or 505,
 /// each an empty response in version 1.1 after which no head follows. A timeout before the first byte of a head gets no
 /// response. If several faults apply, the first in this order decides: the first bad line, the size, the version, the
 /// host and the framing of the body, its coding, the expectation, a cut body that is read with its head.
 ///
-/// Under the other profiles the next head after a 505 follows the body, which is skipped, unless the head names an
-/// upgrade or the body is chunked. After any other result but a request the source has ended, except for `LastRequest`:
-/// then nothing is read, and the body of the last request can still be read.
+/// Under the other profiles a 505 skips the body, and the next head follows it, unless the head names an upgrade or the
+/// body is chunked: then the source has ended. It has also ended after any other result, except a request and
+/// `LastRequest`. A call that returns `LastRequest` reads nothing, and the body of the last request can still be read.
 ///
 /// Under `Standard` the caller must read no head before a request that asks for an upgrade is answered or dropped, none
 /// after its upgrade or raw writer, and none after a request that was finished while its 100 was owed or more than

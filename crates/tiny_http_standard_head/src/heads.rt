@@ -223,9 +223,9 @@ fn not_ended(bytes: &[u8], limit: usize, fault: StandardFault) -> StandardRead
 /// request line is skipped.
 ///
 /// The first malformed or surplus line is refused, whatever follows, and so are `limit` bytes without the end of a
-/// head; if `limit` is below 3, even before a byte of a head. If more bytes are needed, call again with these bytes and
-/// the new ones. Each call starts over, so for a head that comes byte by byte use `source_heads::read_head_from`. Fails
-/// if memory is refused, which happens only if the request line is valid.
+/// head. If `limit` is below 3, that second refusal can come even before the first byte of a head. If more bytes are
+/// needed, call again with these bytes and the new ones. Each call starts over, so for a head that comes byte by byte
+/// use `source_heads::read_head_from`. Fails if memory is refused, which happens only if the request line is valid.
 pub fn read_head(alloc: Global, bytes: &[u8], limit: usize) -> Result<StandardRead, AllocError>
     ensures reads { IfOk result (λ read. Reads limit bytes.now read) }
     ensures begun { OnErr result (HasGoodRequestLine (take limit bytes.now)) }
