@@ -33,8 +33,8 @@ is_bws b = b == 9 || b == 32
 abbrev pub is_hex : ℕ → Bool
 is_hex b = nat_lt (digit_value b) 16
 
--- whether the text is a chunk-size [ chunk-ext ] of this size: the text before the first `;`, without blanks around it,
--- is 1 to 16 hexadecimal digits
+-- whether the text is a chunk-size [ chunk-ext ] of this size: the text before the first `;`, once spaces and tabs
+-- around it are removed, is 1 to 16 hexadecimal digits
 pub record SizeText (text : List ℕ) (size : ℕ) : Type 0 where
   pub part : List ℕ
   pub extension : List ℕ
