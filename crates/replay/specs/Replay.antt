@@ -10,7 +10,7 @@ use Rattle.replay_script.specs.Reply.{reply_line}
 use Rattle.replay_script.specs.Script.{IsScript}
 
 -- A run of `steps` under profile `p`, over a client that sends the bytes `client` and ends: `replies` are the replies
--- to the steps, no call on the writer fails, and `output` is what the writer took, followed by what is still held.
+-- to the steps, no call to the writer fails, and `output` is what the writer took, followed by what is still held.
 pub record HasRun (p : Profile) (client : List ℕ) (steps : List TimedValue) (replies : List ReplyValue)
     (output : List ℕ) : Type 0 where
   pub before : Sink

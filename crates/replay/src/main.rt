@@ -1,7 +1,7 @@
 //! Runs the steps of a script over a client's bytes: `replay [--strict | --standard] BYTES SCRIPT`. The connection's
 //! output goes to standard output, and a line for the reply to each step to standard error. `--strict` and `--standard`
-//! name the profile under which heads are read, by default `Lenient`. `replay_script` reads the script, and `run_with`
-//! of `tiny_http_core` runs its steps.
+//! name the profile under which heads are read, which is `Lenient` by default. `replay_script` reads the script, and
+//! `run_with` of `tiny_http_core` runs its steps.
 #![tactic(auto)]
 
 ghost use Rattle.std.specs.Prelude.{◌≡◌, ◌<◌, ◌≤◌, ◌⊎◌, ℕ, ◌++◌, map, Err, IsErrAnd, IfOk, IfErr, OnOk};

@@ -364,7 +364,7 @@ fn the_profile_is_named_first(rt: HostRuntime) -> Result<(), Fail> {
     Ok(())
 }
 
-// A head has two lengths: `Lenient` takes the first, and `Strict` answers with 400.
+// A head has two different content lengths: `Lenient` uses the first, and `Strict` refuses the head with 400.
 #[test]
 fn the_profile_decides(rt: HostRuntime) -> Result<(), Fail> {
     let alloc = rt.alloc();

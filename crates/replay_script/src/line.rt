@@ -29,7 +29,7 @@ pub enum ScriptLine<'a> {
     Write(u64, &'a str),
     /// Sends what was written under this number.
     Flush(u64),
-    /// Upgrades the request of this number to this protocol, with this status code.
+    /// Upgrades the connection of this number's request to this protocol, with this status code.
     Upgrade(u64, u16, &'a str),
     /// Ends the raw writer of this number, or the stream of its upgrade.
     Finish(u64),

@@ -181,7 +181,8 @@ fn answer_in(alloc: Global, words: &str) -> Result<Deed, LineFault> {
     }))
 }
 
-// Parses a line of a script. Fails if it is blank, sets the date, or is no line of a script: such a line has no reply.
+// Parses a line of a script. Fails if it is blank, sets the date, or isn't a line of a script: such a line has no
+// reply.
 fn script_in(alloc: Global, part: &str) -> Result<Deed, LineFault> {
     let line = text(alloc, part)?;
     match text_in(line.as_str()) {

@@ -80,7 +80,7 @@ fn validated(alloc: Global, words: &str) -> Result<Call, LineFault> {
     Ok(Call::Validate(version(version_word)?, method(alloc, name)?))
 }
 
-// Parses the rules of a decoder, which are lenient if there are no words.
+// Parses the rules of a decoder, which are `Lenient` if there are no words.
 fn chunk_rules(words: &str) -> Result<ChunkRules, LineFault> {
     match words {
         "" => Ok(ChunkRules::Lenient),
@@ -89,7 +89,7 @@ fn chunk_rules(words: &str) -> Result<ChunkRules, LineFault> {
     }
 }
 
-// Parses a profile, which is lenient if there are no words.
+// Parses a profile, which is `Lenient` if there are no words.
 fn profile(words: &str) -> Result<Profile, LineFault> {
     match words {
         "" => Ok(Profile::Lenient),

@@ -94,17 +94,17 @@ pub enum Call {
     Version(HTTPVersion),
     /// Formats this number in decimal and in hexadecimal with `Numeral`.
     Numeral(u64),
-    /// Parses a request line under the standard profile.
+    /// Parses a request line under `Standard`.
     StandardRequestLine,
-    /// Parses a field line under the standard profile.
+    /// Parses a field line under `Standard`.
     StandardFieldLine,
     /// Validates a text as a host, as the value of a Host field, and as the target of a `CONNECT`.
     Host,
-    /// Validates a head with this version and method under the standard profile.
+    /// Validates a head with this version and method under `Standard`.
     Validate(HTTPVersion, Method),
-    /// Reads the head at the start of the input under the standard profile. The head may have at most this many bytes.
+    /// Reads the head at the start of the input under `Standard`. The head may have at most this many bytes.
     ReadHead(usize),
-    /// Prints a response with this status code under the standard profile, using `print`.
+    /// Prints a response with this status code under `Standard`, using `print`.
     Print(StatusCode),
     /// Makes successive calls on a value of this kind.
     Each(Subject),

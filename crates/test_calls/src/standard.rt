@@ -1,4 +1,4 @@
-//! Makes calls that parse or validate a head, or a part of one, under the standard profile.
+//! Makes calls that parse or validate a head, or a part of one, under `Standard`.
 use crate::findings::{add, add_shown};
 use crate::row::Finding;
 use std::alloc::{AllocError, Global};

@@ -213,8 +213,8 @@ fn output_of(row: &Row) -> &[u8] {
     b""
 }
 
-// Tries a call with a writer that accepts `bytes` bytes and then fails. The writer must get that prefix of the output,
-// and no call after the failure, which the call must report. Returns the first difference.
+// Tries a call with a writer that accepts `bytes` bytes and then fails. The writer must get that prefix of the output
+// and no call after the failure, and the row's call must report the failure. Returns the first difference.
 fn try_room(alloc: Global, row: &Row, bytes: usize) -> Result<Option<Difference>, AllocError> {
     let output = output_of(row);
     let mut wanted = Vec::new(alloc);

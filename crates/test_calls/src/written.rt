@@ -189,7 +189,7 @@ const BY_THE_STANDARD: ResponseContext = ResponseContext {
     persistence: Some(Persistence::Persistent),
 };
 
-/// Prints a response under the standard profile. Adds the results, and how much of its data was read.
+/// Prints a response under `Standard`. Adds the results, and how much of its data was read.
 pub fn print_by_standard(
     alloc: Global,
     status: StatusCode,

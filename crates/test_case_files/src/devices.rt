@@ -7,7 +7,7 @@ use tiny_http_wire::device::{ByPieces, Canned, FailsAt};
 /// The reader of a trial. It returns a client's bytes in pieces of limited size, and one of its calls may fail.
 pub type Reader = FailsAt<ByPieces<Canned>>;
 
-/// The piece sizes with which each case is tried: the maximum number of bytes that a call of the reader returns.
+/// The piece sizes with which each case is tried: the maximum number of bytes that a call to the reader returns.
 pub const PIECES: [usize; 4] = [1, 2, 1023, 1024];
 
 /// A writer in memory that fails once its room is used up, or in one of its calls. Both writes and flushes count as
@@ -84,8 +84,8 @@ impl Trier {
 }
 
 impl Write for Trier {
-    /// Accepts as many bytes as fit into the room. Fails if none fits and `buf` is not empty, or if this call must
-    /// fail.
+    /// Accepts as many bytes as fit into the room. Fails if none fits and `buf` is not empty, if this call must fail,
+    /// or if memory is refused.
     fn write(&mut self, buf: &[u8]) -> io::Result<usize> {
         self.call()?;
         let n = buf.len().min(self.room);

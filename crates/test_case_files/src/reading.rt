@@ -259,7 +259,8 @@ fn read_line(alloc: Global, cases: &mut Vec<Case>, line: &[u8]) -> Result<(), Li
     }
 }
 
-/// Reads the cases of a file from its bytes. Fails at the first invalid line, or if there is no case.
+/// Reads the cases of a file from its bytes. Fails at the first invalid line, if there is no case, or if `lack_of`
+/// finds a lack in the last one.
 pub fn read_cases<'a>(
     alloc: Global,
     name: &'a str,

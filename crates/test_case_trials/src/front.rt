@@ -31,8 +31,8 @@ fn handed_of<'a>(alloc: Global, case: &'a Case) -> Result<Vec<&'a [u8]>, AllocEr
     Ok(handed)
 }
 
-// Returns the difference at the first request in `found` that is not the one at the same position in `wanted`. Requests
-// that are missing in `found` are no difference.
+// Returns the difference at the first request in `found` that is not the one at the same position in `wanted`. A
+// request that is missing in `found` isn't a difference.
 fn handed_differ(
     alloc: Global,
     found: &[&[u8]],
@@ -133,7 +133,7 @@ fn is_answer_or_none(rest: &[u8]) -> bool {
     rest.is_empty() || rest.starts_with(b"HTTP/")
 }
 
-// Returns whether a case sends only complete responses: no request is upgraded or turned into its raw writer.
+// Returns whether a case sends only complete responses: no step upgrades a request or takes its raw writer.
 fn has_whole_answers(case: &Case) -> bool {
     case.steps.iter().all(|step| match &step.deed {
         Deed::Script(line) => !line.starts_with("writer ") && !line.starts_with("upgrade "),
@@ -158,8 +158,8 @@ fn answer_is_cut(
 // Length of the date in a Date field line.
 const DATE: usize = 29;
 
-// Returns the output before a 408 response at its end, or `None` if it doesn't end with one. Under the standard profile
-// that response also has `Connection: close`.
+// Returns the output before a 408 response at its end, or `None` if it doesn't end with one. Under `Standard` that
+// response also has `Connection: close`.
 fn before_408(profile: Profile, output: &[u8]) -> Option<&[u8]> {
     let dated = output.strip_suffix(b"\r\nContent-Length: 0\r\n\r\n")?;
     let front = match profile {
@@ -189,9 +189,9 @@ fn last_close(output: &[u8]) -> Option<usize> {
         .starts_with(CLOSE))
 }
 
-// Returns the output without its last `Connection: close` field line. Under the standard profile, a cut body adds this
-// field line to the last response, and the case doesn't have it there. Returns `None` if the output remains as it is:
-// under another profile, without such a field line, or if it is a prefix of the case's.
+// Returns the output without its last `Connection: close` field line. Under `Standard`, a cut body adds this field line
+// to the last response, and the case doesn't have it there. Returns `None` if the output remains as it is: under
+// another profile, without such a field line, or if it is a prefix of the case's.
 fn without_close(alloc: Global, case: &Case, output: &[u8]) -> Result<Option<Vec<u8>>, AllocError> {
     if case.profile != Profile::Standard || case.output.starts_with(output) {
         return Ok(None);
@@ -211,8 +211,8 @@ fn without_close(alloc: Global, case: &Case, output: &[u8]) -> Result<Option<Vec
 /// must be a prefix of what they return in the case. The first reply that differs must belong to an `ask` or a `read`.
 ///
 /// The output must be a prefix of the case's and, unless the case upgrades a request or takes its raw writer, consist
-/// of complete responses. After a timeout, a 408 may follow it, and under the standard profile its last response may
-/// have `Connection: close`. No call of the writer may fail.
+/// of complete responses. After a timeout, a 408 may follow it. Under `Standard`, its last `Connection: close` may be
+/// one that the case's output doesn't have. No call to the writer may fail.
 pub fn cut_difference(
     alloc: Global,
     case: &Case,
@@ -243,8 +243,8 @@ pub fn cut_difference(
 }
 
 /// Returns the first difference between the requests of a trial, whose client sent the bytes `client`, and those that a
-/// plain reading of these bytes finds under the case's profile. There is no plain reading for the strict profile, and
-/// no case under it has its bytes changed.
+/// plain reading of these bytes finds under the case's profile. There is no plain reading for `Strict`, and no case
+/// under that profile has its bytes changed.
 pub fn plain_difference(
     alloc: Global,
     case: &Case,

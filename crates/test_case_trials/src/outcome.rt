@@ -10,11 +10,12 @@ pub struct Outcome {
     pub replies: Vec<Vec<u8>>,
     /// The bytes that the writer accepted, and then those still buffered.
     pub output: Vec<u8>,
-    /// Whether a call of the writer failed.
+    /// Whether a call to the writer failed.
     pub has_failed: bool,
-    /// Number of failed calls of the writer, as its `Metered` counts them, or the writer itself if it has none.
+    /// Number of failed calls to the writer, as the `Metered` around it counts them, or, if there is none, the writer
+    /// itself.
     pub failures: u64,
-    /// Number of calls of the writer after the first failure.
+    /// Number of calls to the writer after the first failure.
     pub later: u64,
     /// Why no further request comes after the steps, or `None` if this is not known.
     pub end: Option<Vec<u8>>,
@@ -53,8 +54,8 @@ fn is_reported(step: &CaseStep, found: &[u8]) -> bool {
     step.may_report() && found == b"fault Interrupted".as_slice()
 }
 
-// Returns the first difference between the replies of a trial and those of its case. If a call failed by injection
-// (`is_failing`), one reply may report that failure, and any reply may differ as `is_unmet` allows.
+// Returns the first difference between the replies of a trial and those of its case. If a call failed because a failure
+// was injected (`is_failing`), one reply may report that failure, and each reply may differ as `is_unmet` allows.
 fn replies_differ(
     alloc: Global,
     case: &Case,
@@ -201,10 +202,10 @@ fn end_differs(
     differing(alloc, what, found.as_slice(), wanted.as_slice())
 }
 
-/// Returns the first difference of a trial's outcome from its case, if any. If a call of the writer failed by
-/// injection, the output may be a prefix of the case's, one reply may report the failure, and errors of data that were
-/// not read may be missing. Exactly one failure must then be counted. Otherwise no failure may be counted, unless
-/// the case determines how its writer fails. The writer must never be called again after a failure.
+/// Returns the first difference of a trial's outcome from its case, if any. If a call to the writer failed because a
+/// failure was injected, the output may be a prefix of the case's, one reply may report the failure, and errors of data
+/// that were not read may be missing. Exactly one failure must then be counted. Otherwise no failure may be counted,
+/// unless the case determines how its writer fails. The writer must never be called again after a failure.
 pub fn first_difference(
     alloc: Global,
     case: &Case,

@@ -15,7 +15,7 @@ use test_data_files::program::NamedFile;
 
 /// A way to run the steps of a case.
 pub trait Runner {
-    /// Returns the words that name this way in a report, with a space before them, or no words.
+    /// Returns the words that name this way in a report, with a space before them, or an empty string.
     fn how(&self) -> &'static str;
 
     /// Returns whether this way reports the requests' numbers itself, instead of taking them from the case.
@@ -53,11 +53,11 @@ pub fn files_of<'a>(
 #[derive(Clone, Copy, Debug, PartialEq, Eq)]
 pub struct Tally {
     pub cases: u64,
-    /// Runs without an injected fault, or with a failing call of the writer.
+    /// Runs without an injected fault, or with a failing call to the writer.
     pub runs: u64,
     /// Runs with the client's bytes cut short.
     pub cuts: u64,
-    /// Runs in which one call of the reader failed, and later calls did not.
+    /// Runs in which one call to the reader failed, and later calls did not.
     pub faults: u64,
     /// Runs with one of the client's bytes changed.
     pub changes: u64,
@@ -123,7 +123,7 @@ fn report<O: Write>(
     )
 }
 
-// Tries a case once, counts the run, and prints a line if it differs. Returns whether a call of the writer failed.
+// Tries a case once, counts the run, and prints a line if it differs. Returns whether a call to the writer failed.
 fn try_once<'a, F: Runner, O: Write>(
     (alloc, runner): (Global, &mut F),
     out: &mut O,
@@ -144,8 +144,8 @@ fn try_once<'a, F: Runner, O: Write>(
     Ok(outcome.has_failed)
 }
 
-// Tries a case once for each call of the writer, which is made to fail. Ends with a run in which no call fails, since
-// the writer isn't called as often. A case with `MOST_CALLS` calls or more counts as one that differs.
+// Tries a case once for each call to the writer, and makes that call fail. Ends with a run in which no call fails,
+// since the writer isn't called as often. A case with `MOST_CALLS` calls or more counts as one that differs.
 fn try_failing<'a, F: Runner, O: Write>(
     (alloc, runner): (Global, &mut F),
     out: &mut O,
@@ -215,7 +215,7 @@ fn try_bytes<'a, F: Runner, O: Write>(
     Ok(())
 }
 
-// Tries a case with a reader of each piece size. Also makes each call of the writer fail in turn, unless the case
+// Tries a case with a reader of each piece size. Also makes each call to the writer fail in turn, unless the case
 // determines how its writer fails.
 fn try_whole<'a, F: Runner, O: Write>(
     (alloc, runner): (Global, &mut F),

@@ -9,7 +9,7 @@ use tiny_http_wire::device::{ByPieces, Canned, FailsAt};
 /// A fault injected into a case.
 #[derive(Clone, Copy, Debug, PartialEq, Eq)]
 pub enum Harm {
-    /// This call of the writer fails, counted from 1.
+    /// This call to the writer fails, counted from 1.
     Call(u64),
     /// Only this many of the client's bytes arrive. Then the reader fails with this kind, or reports the end.
     Cut(usize, Option<ErrorKind>),
@@ -22,7 +22,7 @@ pub enum Harm {
 /// One way to try a case.
 #[derive(Clone, Copy, Debug, PartialEq, Eq)]
 pub struct Trial {
-    /// Maximum number of bytes that a call of the reader returns.
+    /// Maximum number of bytes that a call to the reader returns.
     pub piece: usize,
     /// The injected fault, if any.
     pub harm: Option<Harm>,

@@ -24,7 +24,7 @@ pub(crate) struct ByPath<R: Wait + Clock + Drop> {
     /// The requests that are kept: all if `keeps_all` is set, and those for `/keep` otherwise.
     pub kept: Arc<MessagesQueue<ServerRequest<R>>>,
     pub keeps_all: Arc<AtomicBool>,
-    /// Whether a call of the handler that waits at the gate may continue.
+    /// Whether a call to the handler that waits at the gate may continue.
     pub gate: Arc<AtomicBool>,
 }
 

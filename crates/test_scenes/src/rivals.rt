@@ -115,8 +115,8 @@ fn refusal_at<R: Host>(rt: &R, alloc: Global, path: &str) -> Result<Option<Error
 }
 
 // Creates a server with limits at a path where `found` exists, and expects the error `wanted`, or no error if `wanted`
-// is `None`. Also expects that the file is gone afterwards if it is a stale socket, which the server takes over and
-// removes when it is dropped, and that any other file still exists.
+// is `None`. Also expects that the file is gone afterwards if it is a stale socket, which the server replaces with its
+// own and removes when it is dropped, and that any other file still exists.
 fn demand_made_at<R: Host>(
     rt: &R,
     alloc: Global,

@@ -31,7 +31,7 @@ const LONGEST: u64 = 10;
 // Maximum number of checks, a millisecond apart, for something expected.
 const TURNS: u32 = 10_000;
 
-// Maximum number of descriptors taken. By default the system allows a process no more.
+// Maximum number of descriptors taken. By default the system allows a process no more than this.
 const MOST_DESCRIPTORS: u32 = 1_048_576;
 
 // Initial capacity of the queue of kept requests.
@@ -227,8 +227,8 @@ fn received<R: Host>(hands: &Hands<R>) -> Result<io::Result<Option<ServerRequest
     })
 }
 
-// Calls `try_recv` once if `nothing` is expected, and otherwise until it returns a request or an error, at most `TURNS`
-// times.
+// Calls `try_recv` once if no request is expected, and otherwise until it returns a request or an error, at most
+// `TURNS` times.
 fn tried<R: Host>(
     rt: &R,
     hands: &Hands<R>,

@@ -10,7 +10,8 @@ use Rattle.tiny_http_request.specs.declared.request.Request.{Request}
 use Rattle.tiny_http.specs.declared.accepting.Message.{Message}
 use Rattle.tiny_http.specs.declared.accepting.Message.TheVariants.{Error, NewRequest, NewClient}
 
--- the request or the error that was popped, or `None` for a mark, an empty queue, or a client that is to be served
+-- the request or the error that was popped, or `None` for an unblock mark, an empty queue, or a client that is to be
+-- served
 abbrev pub received : {R : Type 0} → Option (Message R)
     → Result
     (Option (Request (TimedReader (FlushingReader RefinedTcpStream (TimedWriter R)) R)

@@ -53,9 +53,9 @@ pub(crate) enum Message<R: Wait + Clock + Drop> {
 }
 
 impl<R: Wait + Clock + Drop> Message<R> {
-    /// Converts a queue message to a request or an error, or to `None` if none was popped: the queue was empty, or held
-    /// a mark. If the message is a client that is to be served, the client goes back into the queue, and the result is
-    /// `None`, too; if the queue has no room, the client is closed.
+    /// Converts a queue message to a request or an error, or to `None` if the queue was empty or the pop found an
+    /// unblock mark. If the message is a client that is to be served, the client goes back into the queue, and the
+    /// result is `None`, too; if the queue has no room, the client is closed.
     pub fn received(
         messages: &Messages<R>,
         rt: &R,
@@ -78,8 +78,8 @@ impl<R: Wait + Clock + Drop> Message<R> {
 /// The queue of a server.
 pub(crate) type Messages<R> = MessagesQueue<Message<R>>;
 
-// Drops what is in the queue of a closed server. Once the server has been stopped, leaves a mark there, so that each
-// waiting call returns.
+// Drops what is in the queue of a closed server. Once the server has been stopped, also leaves an unblock mark in the
+// queue, so that each waiting call returns.
 fn drop_waiting<R: Wait + Clock + Drop>(rt: &R, messages: &Messages<R>, ending: &Ending) {
     messages.clear(rt);
     if ending.has_stopped() {
@@ -88,9 +88,9 @@ fn drop_waiting<R: Wait + Clock + Drop>(rt: &R, messages: &Messages<R>, ending: 
 }
 
 // Closes a connection in stages, after all its requests are answered (RFC 9112, section 9.6): shuts down writing, then
-// discards what the client still sends, until the client closes, is silent for too long or sends too much; under limits
-// for at most 5 seconds. A connection that is closed with unread bytes is reset, and the client may lose the last
-// response.
+// discards what the client still sends, until the client closes, is silent for too long or sends too much. Under limits
+// no read begins after 5 seconds. If the read timeout can't be set, nothing is discarded. A connection that is closed
+// with unread bytes is reset, and the client may lose the last response.
 fn close_in_stages<R: Clock>(rt: &R, socket: &Connection, has_limits: bool) {
     let begun = time_of(rt);
     let most = Duration::from_secs(LINGER_SECS);
@@ -128,8 +128,8 @@ pub(crate) struct Client<R: Wait + Clock + Drop> {
 }
 
 impl<R: Wait + Clock + Copy> Client<R> {
-    // Puts the client's requests into the queue until there is no further one. If the server begins to serve with a
-    // handler, returns the request that came then. A request is dropped if the queue has no room for it. After the
+    // Puts the client's requests into the queue until there is no further one. Once the server serves with a handler,
+    // returns the next request instead of queuing it. A request is dropped if the queue has no room for it. After the
     // server was closed nothing takes requests from the queue, so a thread that adds one then empties the queue.
     fn read_requests(
         &mut self,

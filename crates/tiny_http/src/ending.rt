@@ -4,11 +4,11 @@ use std::sync::atomic::{AtomicBool, Ordering};
 /// The stage of a server's shutdown, which the server's threads share.
 #[derive(Drop)]
 pub(crate) struct Ending {
-    // No further client is accepted.
+    // Whether accepting was ended: no further client is to be accepted.
     is_closed: AtomicBool,
-    // The accepting thread accepts no further client.
+    // Whether the accepting thread accepts no further client.
     has_accepted_all: AtomicBool,
-    // A call of `stop` has finished its wait.
+    // Whether a call to `stop` has finished its wait.
     has_stopped: AtomicBool,
 }
 
@@ -42,12 +42,12 @@ impl Ending {
         self.has_accepted_all.load(Ordering::SeqCst)
     }
 
-    /// Records that a call of `stop` has finished its wait.
+    /// Records that a call to `stop` has finished its wait.
     pub fn stop(&self) {
         self.has_stopped.store(true, Ordering::SeqCst);
     }
 
-    /// Returns whether a call of `stop` has finished its wait.
+    /// Returns whether a call to `stop` has finished its wait.
     pub fn has_stopped(&self) -> bool {
         self.has_stopped.load(Ordering::SeqCst)
     }

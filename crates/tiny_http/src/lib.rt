@@ -33,7 +33,7 @@
 //! - Without threads: `driver`, `exchange`, `source`, `outlet`, `turns`.
 //! - In tests: `test`, `answer` (reads a response). And `laws`, what the contracts say in short.
 //!
-//! The other modules are parts of the Rust crate that few programs need.
+//! The other modules correspond to parts of the Rust crate that few programs need.
 #![tactic(auto)]
 
 mod accepting;

@@ -26,8 +26,8 @@ struct Connections {
     counts: Counts,
 }
 
-/// A server's open connections, within its limits, and its counters, to which a connection's requests are added when it
-/// closes. Its threads share it.
+/// A server's open connections, within its limits, and its counters, to which a connection's requests are added when
+/// that connection closes. The server's threads share the registry.
 #[derive(Drop)]
 pub(crate) struct ConnectionRegistry {
     connections: Mutex<Connections>,

@@ -144,8 +144,8 @@ impl From<ServerError> for io::Error {
 pub struct ServerConfig {
     /// The address to listen at.
     pub addr: ConfigListenAddr,
-    /// The TLS settings. TLS isn't implemented: with `Some` no server is made, and the error is `ServerError::Ssl`
-    /// unless the address can't be listened at.
+    /// The TLS settings. TLS isn't implemented: with `Some` no server is made. The error is that of listening at the
+    /// address, if that fails, and otherwise `ServerError::Ssl`.
     pub ssl: Option<SslConfig>,
 }
 
@@ -258,9 +258,9 @@ impl<R: ServerRuntime> Server<R> {
         Server::bound(rt, alloc, config, profile, None)
     }
 
-    /// Makes a server for an open port: as `new_with` does, with these limits for its clients. After a temporary accept
-    /// error, such as that no descriptor is left or that a client has reset its connection, it waits and tries again.
-    /// It takes over the file of a Unix socket on which no process listens.
+    /// Makes a server as `new_with` does, but with these limits for its clients, as an open port needs them. After a
+    /// temporary accept error, such as that no descriptor is left or that a client has reset its connection, it waits
+    /// and tries again. If no process listens on the Unix socket at its path, it first removes that socket's file.
     pub fn with(
         rt: R,
         alloc: Global,
@@ -304,7 +304,7 @@ impl<R: ServerRuntime> Server<R> {
     /// dropped.
     ///
     /// Fails with `Ssl` if there are TLS settings, with `Io` if the socket has no address or the system has no thread
-    /// for the server, and with `Memory` if memory is refused. The file then stays.
+    /// for the server, and with `Memory` if memory is refused. If it fails, the file of a Unix socket stays.
     pub fn from_listener(
         rt: R,
         alloc: Global,
@@ -331,8 +331,8 @@ impl<R: ServerRuntime> Server<R> {
         Server::over_unless_ssl(rt, alloc, listener, ssl, profile, None)
     }
 
-    /// Makes a server for an open port over this listening socket: as `from_listener_with` does, with the limits and
-    /// the accept loop of `with`.
+    /// Makes a server over this listening socket as `from_listener_with` does, but with these limits for its clients
+    /// and with the accept loop of `with`, as an open port needs them.
     pub fn from_listener_within(
         rt: R,
         alloc: Global,
@@ -439,7 +439,7 @@ impl<R: Net + SocketFiles + Wait + Clock + Drop> Server<R> {
     /// that were accepted before.
     ///
     /// Once the server serves with a handler, `recv` returns only requests that were read before that. If a client
-    /// waits for the next call of `serve`, `recv` fails at once with kind `Other`, as if `unblock` had been called.
+    /// waits for the next call to `serve`, `recv` fails at once with kind `Other`, as if `unblock` had been called.
     ///
     /// Once the server has been stopped, each call fails with kind `Other`. A server with limits doesn't hand out a
     /// request if an earlier response on its connection broke off: the response to the request would be lost.
@@ -618,7 +618,7 @@ pub fn current_date<R: Clock>(rt: &R) -> HttpDate {
     date_of(rt.since_1970().ok())
 }
 
-// Returns the date of this time since 1970.
+// Returns the date of this time since 1970, or second 0 of 1970 if there is no time or it is after the year 9999.
 fn date_of(time: Option<Duration>) -> HttpDate
     ensures { unix_secs result ≡ seconds_of time }
 {

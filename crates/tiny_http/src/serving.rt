@@ -38,7 +38,7 @@ pub trait Handler<R, Q> {
 enum Work<R: Wait + Clock + Drop> {
     // Responds to the requests of a client, then closes its connection.
     Client(Arrival<R>),
-    // Responds to a request that was queued before the server served. `None` once that is done.
+    // Responds to a request that was queued before the server began to serve. `None` once that is done.
     Request(R, Option<ServerRequest<R>>),
 }
 

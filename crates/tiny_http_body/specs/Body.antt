@@ -79,7 +79,7 @@ remaining (Chunked decoding) feed = option_map coming_remaining (decoding_coming
 remaining Rest feed = option_map rest_remaining feed
 
 -- whether d decodes a chunked body of which nothing has been read: a whole body decodes to its data and leaves the
--- rest; any other body decodes to the data that are there, then the fault
+-- rest; any other body decodes to its data before the fault, then reports the fault
 pub record IsNewDecoding (by_standard : Bool) (d : Decoding) : Type 0 where
   pub rules : decoding_rules d ≡ chunk_rules by_standard
   pub whole : (bytes body rest : List ℕ) (stop : Stop) → WholeChunksBy (chunk_rules by_standard) bytes body rest
@@ -181,7 +181,8 @@ IsChunkedBy rules (Chunked decoding) = decoding_rules decoding ≡ rules
 IsChunkedBy rules _ = ⊥
 
 -- whether a body with a `Content-Length` is over, given whether it was read under `Standard`, and whether all its bytes
--- had come: with a fault only if they hadn't, and without a fault only if they had or it wasn't read under `Standard`
+-- had arrived: with a fault only if they hadn't, and without a fault only if they had or it wasn't read under
+-- `Standard`
 abbrev pub IsCountedOver : Bool → Bool → UnreadBody → Type 0
 IsCountedOver by_standard has_come (Over End) = (has_come || not by_standard) ≡ true
 IsCountedOver by_standard has_come (Over (Fault kind)) = has_come ≡ false
@@ -260,8 +261,9 @@ Fits standard (Chunked decoding) shape n given end_reported =
     (shape ≡ form.Chunked) × (end_reported ≡ false) × (decoding_rules decoding ≡ chunk_rules standard)
 Fits standard Rest shape n given end_reported = (shape ≡ form.Rest) × (end_reported ≡ false)
 
--- whether a buffer was filled from the body: it is full; or it has fewer bytes, and none is left; or a fault came
--- before any byte, and stays. If a nonempty buffer got no byte, the body was at its end.
+-- whether a buffer was filled from the body: it is full; or it has fewer bytes, and no byte of the body is left; or a
+-- fault came before any byte, and each later read reports it again. If a nonempty buffer got no byte and no fault was
+-- reported, the body was at its end.
 abbrev pub FillsFromBody : UnreadBody → Option Feed → UnreadBody → Option Feed → Result ℕ ErrorKind → List ℕ → Type 0
 FillsFromBody old from new to (Ok n) buf =
     (remaining old from ≡ prepended_body (take n buf) (remaining new to))
@@ -281,10 +283,10 @@ body_input_state (Counted n by_standard) input_state = input_state
 body_input_state (Chunked decoding) input_state = input_state
 body_input_state Rest input_state = input_state
 
--- WHAT A READ RETURNS of a body, and what it leaves. The bytes that came are the next of the body, at most as many as
--- fit. A read into a nonempty buffer that returns 0 is at the end of the body; a fault is the body's own. A body with a
--- `Content-Length` is over with its last byte; any other body that is read from the input is over once its end or fault
--- has been reported. After the first fault the source is at its end. The input advances or stays.
+-- WHAT A READ RETURNS of a body, and what it leaves. The bytes returned are the next ones of the body, at most as many
+-- as fit. A read into a nonempty buffer that returns 0 is at the end of the body; a fault is the body's own. A body
+-- with a `Content-Length` is over with its last byte; any other body that is read from the input is over once its end
+-- or fault has been reported. After the first fault the source is at its end. The input advances or stays.
 pub record ReadsRemaining {R : Type 0} (old new : UnreadBody) (from to : SourceState R) (r : Result ℕ Error)
     (buf : List ℕ) : Type 0 where
   pub bound : IfOk r (λ n. n ≤ length buf)
@@ -333,8 +335,8 @@ PassesOver (Chunked decoding) old new = new ≡ old
 PassesOver Rest old new = new ≡ old
 
 -- The effect of giving up a body: the rest of a body with a `Content-Length` is skipped (`SkipsBytes`) before the next
--- head; after a chunked body whose end hasn't been read no head follows; otherwise nothing changes, and the rest of the
--- input is left to the source.
+-- head; after a chunked body whose end or fault hasn't been reported, no head follows; for any other body nothing
+-- changes.
 abbrev pub GivesUp : {R : Type 0} → UnreadBody → SourceState R → SourceState R → Type 0
 GivesUp (Over stop) old new = new ≡ old
 GivesUp (WithHead bytes) old new = new ≡ old

@@ -25,6 +25,7 @@ left_over bytes = drop (length bytes / CHUNK * CHUNK) bytes
 abbrev pub short_chunk : List ℕ → List ℕ
 short_chunk bytes = if length bytes == 0 then [] else printed_chunk bytes
 
--- all bytes in chunks of `CHUNK` bytes, of which the last may be shorter, then the chunk of size 0 that ends the body
+-- all bytes in chunks of `CHUNK` bytes, of which the last may be shorter, then the chunk of size 0 and the empty
+-- trailer section that end the body
 abbrev pub chunked : List ℕ → List ℕ
 chunked bytes = full_chunks bytes ++ short_chunk (left_over bytes) ++ codes "0\r\n\r\n"

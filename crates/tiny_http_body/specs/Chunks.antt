@@ -21,7 +21,7 @@ use Rattle.tiny_http_body.specs.declared.chunked.ChunkRules.TheVariants.{Lenient
 abbrev pub longest_line : ℕ
 longest_line = LONGEST_LINE
 
--- maximum number of lines in a trailer section: 128
+-- maximum number of lines in a trailer section, without its empty line: 128
 abbrev pub most_trailers : ℕ
 most_trailers = MOST_TRAILERS
 
@@ -116,19 +116,19 @@ pub record WholeChunksBy (rules : ChunkRules) (bytes body rest : List ℕ) : Typ
   pub are_trailers : AllByRecursion (IsTrailerLineBy rules) trailers
   pub few_trailers : length trailers ≤ most_trailers
 
--- whether no CR LF begins within the maximum length of a line
+-- whether the first `longest_line + 2` bytes contain no CR LF
 abbrev pub HasNoShortLine : List ℕ → Type 0
 HasNoShortLine bytes = has_crlf (take (longest_line + 2) bytes) ≡ false
 
 -- whether there is no line where one must be, with a fault of this kind: the longest line with its CR LF would fit in
--- the bytes, and the fault is `InvalidData`; or it wouldn't, and the fault is that of their stop
+-- the bytes, and the fault is `InvalidData`; or it wouldn't, and the fault is that of the bytes' stop
 abbrev pub ChunkLineFault : List ℕ → Stop → ErrorKind → Type 0
 ChunkLineFault bytes stop kind =
     HasNoShortLine bytes
     × (((longest_line + 2 ≤ length bytes) × (kind ≡ InvalidData))
     ⊎ ((length bytes < longest_line + 2) × (kind ≡ fault_of stop)))
 
--- whether there is an LF before the first CR LF, within the bytes that a line with its end may have
+-- whether there is an LF before the first CR LF, among the first `longest_line + 2` bytes
 pub record LoneFeed (bytes : List ℕ) : Type 0 where
   pub text : List ℕ
   pub rest : List ℕ

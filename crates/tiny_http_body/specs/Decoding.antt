@@ -145,11 +145,11 @@ feed_of c = record { bytes = c.bytes; stop = stop_behind c.behind }
 abbrev pub decoder_feed : {R : Type 0} → (R → Option Feed) → Decoder R → Option Feed
 decoder_feed feed d = option_map feed_of (decoder_coming feed d)
 
--- ONE READ of a decoder. The bytes that came are the next of the body's data. A read into a nonempty buffer that
--- returns 0 is at the body's end, and the inner reader is just after the body. An error comes only where the data break
--- off, and takes none. Whatever the reader states, a read into an empty buffer changes nothing, a reported end or fault
--- is reported from then on, only bytes at the reader's front are taken, and up to a fault none beyond the one that
--- shows it.
+-- ONE READ of a decoder. The bytes returned are the next ones of the body's data. A read into a nonempty buffer that
+-- returns 0 is at the body's end, and the inner reader is just after the body. A fault is reported only where the data
+-- break off, and takes no data. Whatever the reader states, a read into an empty buffer changes nothing, a reported end
+-- or fault is reported from then on, only bytes at the reader's front are taken, and up to a fault none beyond the one
+-- that shows it.
 pub record ReadsData {R : Type 0} (feed : R → Option Feed) (old new : Decoder R) (r : Result ℕ Error)
     (buf : List ℕ) : Type 0 where
   pub bound : IfOk r (λ n. n ≤ length buf)

@@ -32,8 +32,9 @@ pub record Encoded (start now : Sink) (given held : List ℕ) : Type 0 where
 abbrev pub HasEncoded : {W : Type 0} → Sink → List ℕ → EncoderState W → Type 0
 HasEncoded start given e = (e.failed ≡ false) × Encoded start e.sink given e.held
 
--- whether a call took bytes from the front of a text: the full chunks of the held bytes and those taken were written,
--- and the rest is held. Or whether the writer failed within the full chunks of the held bytes and the whole text.
+-- The effect of a call that takes bytes from the front of a text. `Ok`: the full chunks of the held bytes and those
+-- taken were written, and the rest is held. `Err`: the writer failed within the full chunks of the held bytes and the
+-- whole text.
 abbrev pub Encodes : Sink → Sink → List ℕ → List ℕ → Result ℕ Error → List ℕ → Type 0
 Encodes old new was held (Ok n) text =
     (n ≤ length text)

@@ -1,4 +1,5 @@
--- The framing of requests, and whether the connection persists (RFC 9112, sections 6.3 and 9.3; RFC 9110, 10.1.1).
+-- The framing of requests, and whether the connection persists (RFC 9112, sections 6.3 and 9.3; RFC 9110, section
+-- 10.1.1).
 use Rattle.std.specs.Prelude.{◌≡◌, ℕ, ◌<◌, ◌≤◌, ◌⊎◌, Bool, true, false, not, ◌&&◌, ◌||◌, ◌==◌, List, [], ◌∷◌, ◌++◌}
 use Rattle.std.specs.Prelude.{Option, Some, None, is_some, Result, Ok, Err, IsTrue, codes, if◌then◌else◌}
 use Rattle.tiny_http_head.specs.declared.common.Header.{Header}
@@ -70,7 +71,7 @@ IsBodyLength Lenient headers n = n ≡ lenient_length headers
 IsBodyLength Strict headers n =
     IsStrictLength (elements_of (codes "Content-Length") headers) (elements_of (codes "Transfer-Encoding") headers) n
 
--- whether a 100 is due; `None` if the expectation can't be met
+-- whether a 100 is due, given the value of Expect, if there is one; `None` if the expectation can't be met
 abbrev pub expectation : Option (List ℕ) → Option Bool
 expectation None = Some false
 expectation (Some value) = if same_name value (codes "100-continue") then Some true else None

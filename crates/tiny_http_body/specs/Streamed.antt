@@ -74,8 +74,8 @@ Holds form old new held bytes =
     ((length bytes < CHUNK) × (new ≡ old) × (held ≡ bytes))
     ⊎ ((length bytes ≡ CHUNK) × Took old new (piece_text form bytes) × (held ≡ []))
 
--- ONE WRITE takes bytes from the front of a text, at least one unless the text is empty, after the held bytes. Or the
--- writer failed within the piece that these bytes fill.
+-- THE EFFECT OF ONE WRITE. `Ok`: it takes bytes from the front of a text, at least one unless the text is empty, and
+-- puts them after the held bytes. `Err`: the writer failed within the piece that the held bytes and the text fill.
 abbrev pub Gathers : StreamedForm → Sink → Sink → List ℕ → List ℕ → Result ℕ Error → List ℕ → Type 0
 Gathers form old new was held (Ok n) text =
     (n ≤ length text) × (0 < length text → 0 < n) × Holds form old new held (was ++ take n text)

@@ -31,7 +31,8 @@ whole bytes = record { bytes = bytes; ending = Whole }
 abbrev pub nothing_sent : ErrorKind → Text
 nothing_sent kind = record { bytes = []; ending = Broken kind }
 
--- a body without a transfer coding, cut at n bytes (RFC 9112, section 6.2): whole if the data have at least n bytes
+-- a body without a transfer coding, cut at n bytes (RFC 9112, section 6.2): whole if the data have at least n bytes,
+-- otherwise broken off by the data's fault (`UnexpectedEof` if they end)
 abbrev pub identity_body : ℕ → Feed → Text
 identity_body n feed =
     record {

@@ -22,7 +22,8 @@ pub const MOST_SKIPPED: usize = 65_536;
 #[derive(Clone, Copy, Debug, PartialEq, Eq)]
 pub enum Remainder {
     /// At most `MOST_SKIPPED` bytes of a known length, which can be skipped before the next head. A body that is in
-    /// memory or has ended counts as this too, and so does the whole rest of the input, which no head follows.
+    /// memory or has ended without a fault counts as this too, and so does the whole rest of the input, which no head
+    /// follows.
     Skipped,
     /// More than `MOST_SKIPPED` bytes of a known length.
     Long,
@@ -199,9 +200,10 @@ impl UnreadBody {
         buf: &mut [u8],
     ) -> Result<usize, io::Error>
         ensures reads { ReadsBody self.old self.new source.old source.new result buf.new }
-        // The source's reader reports at most one end or fault, and none if bytes came.
+        // The source's reader reports at most one end or fault, and none if bytes were read.
         ensures stop_count { Tells (R.stop_count source.old.reader) (R.stop_count source.new.reader) result }
-        // It reports one only if the body is then cut or broken, or is the whole rest of the input.
+        // The source's reader reports an end or fault only if the body is then cut or broken, or is the whole rest of
+        // the input.
         ensures whole { R.stop_count source.new.reader
             ≤ R.stop_count source.old.reader + ends_met self.old (bytes_given result) self.new }
     {
@@ -287,7 +289,8 @@ impl UnreadBody {
         ensures stop_count { R.stop_count source.new.reader ≤ R.stop_count source.old.reader + 1 }
         ensures lazy { IfOk result
             (λ n. n ≡ length buf.new → R.stop_count source.new.reader ≤ R.stop_count source.old.reader) }
-        // It reports one only if the body is then cut or broken, or is the whole rest of the input.
+        // The source's reader reports an end or fault only if the body is then cut or broken, or is the whole rest of
+        // the input.
         ensures whole { R.stop_count source.new.reader
             ≤ R.stop_count source.old.reader + ends_met self.old (bytes_given result) self.new }
     {
@@ -326,7 +329,7 @@ impl UnreadBody {
     }
 
     /// Returns the number of bytes left to read, if it is known: for a body of known length that isn't broken, and for
-    /// a body that has reached its end. Fewer come if the client's input ends early.
+    /// a body that has reached its end. Fewer arrive if the client's input ends early.
     pub fn left(&self) -> Option<usize>
         ensures { result ≡ bytes_left self.now }
     {
@@ -359,8 +362,8 @@ impl UnreadBody {
     }
 
     /// Discards the rest of the body. The rest of a body with a `Content-Length` is skipped before the next head. After
-    /// a chunked body whose end hasn't been read no head follows. A body that is the whole rest of the input is left to
-    /// the source.
+    /// a chunked body whose end or fault hasn't been reported, no head follows. If the body is the whole rest of the
+    /// input, the source is unchanged.
     pub fn give_up<R: ReadDevice>(&mut self, source: &mut Source<R>)
         ensures over { self.new ≡ UnreadBody.Over Stop.End }
         ensures gives_up { GivesUp self.old source.old source.new }

@@ -30,12 +30,13 @@ pub const MOST_TRAILERS: usize = 128;
 
 /// The rules for the lines of a chunked body: its chunk-size lines and its trailer section.
 ///
-/// Under both rules a chunk size has 1 to 16 hexadecimal digits of either case, and CR LF follows a chunk's data. A
-/// malformed line is reported once it has ended, and a line that is too long before it ends.
+/// Under both sets of rules a chunk size has 1 to 16 hexadecimal digits of either case, and CR LF follows a chunk's
+/// data. A malformed line is reported once it has ended, except a lone LF under `Standard`. A line that is too long is
+/// reported before it ends.
 #[derive(Clone, Copy, Debug, PartialEq, Eq)]
 pub enum ChunkRules {
-    /// A line ends at its first CR LF. The chunk size is the text before the first `;`, without bytes 9 and 32 around
-    /// it. Of extensions and trailer lines only the length is checked.
+    /// A line ends at its first CR LF. The chunk size is the text before the first `;`, once bytes 9 and 32 around it
+    /// are removed. Of extensions and trailer lines only the length is checked.
     Lenient,
     /// As RFC 9112 requires (sections 2.2 and 7.1 to 7.1.2). A line ends at its first LF; an LF without a CR before it
     /// is `InvalidData` as soon as it is read. A chunk-size line begins with its digits; bytes 9 and 32 may follow,
@@ -170,7 +171,7 @@ fn go_to_data<R: ReadDevice>(reader: &mut R, rules: ChunkRules, next: Next) -> N
     }
 }
 
-// Reads some of the `left` bytes of data. Fails with `UnexpectedEof` at the end of input, and with the reader's fault.
+// Reads some of the `left` bytes of data. Fails with `UnexpectedEof` at the end of input, or with the reader's fault.
 fn read_data<R: ReadDevice>(reader: &mut R, left: u64, buf: &mut [u8]) -> Result<usize, io::Error>
     requires left { 0 < left }
     requires room { 0 < length buf.old }
@@ -203,7 +204,7 @@ impl Decoding {
         ensures whole { (bytes body rest : List ℕ) (stop : Stop) → WholeChunks bytes body rest
             → decoding_coming result (Some (record { bytes = bytes; stop = stop }))
             ≡ Some (record { bytes = body; behind = Ok (record { bytes = rest; stop = stop }) }) }
-        // Any other body decodes to the data that are there, then the fault.
+        // Any other body decodes to its data before the fault, then reports the fault.
         ensures front { (bytes body : List ℕ) (stop : Stop) (kind : ErrorKind) → CutChunks bytes stop body kind
             → decoding_coming result (Some (record { bytes = bytes; stop = stop }))
             ≡ Some (record { bytes = body; behind = Err kind }) }
@@ -219,7 +220,7 @@ impl Decoding {
         ensures whole { (bytes body rest : List ℕ) (stop : Stop) → WholeChunksBy rules bytes body rest
             → decoding_coming result (Some (record { bytes = bytes; stop = stop }))
             ≡ Some (record { bytes = body; behind = Ok (record { bytes = rest; stop = stop }) }) }
-        // Any other body decodes to the data that are there, then the fault.
+        // Any other body decodes to its data before the fault, then reports the fault.
         ensures front { (bytes body : List ℕ) (stop : Stop) (kind : ErrorKind) → CutChunksBy rules bytes stop body kind
             → decoding_coming result (Some (record { bytes = bytes; stop = stop }))
             ≡ Some (record { bytes = body; behind = Err kind }) }
@@ -236,10 +237,10 @@ impl Decoding {
     /// allocates nothing. Chunk-size lines, CR LFs and the trailer section are consumed, and nothing after the trailer
     /// section (RFC 9112, section 7.1). The end is reported once the trailer section has been read.
     ///
-    /// Fails with `InvalidData` if the body breaks the `ChunkRules`, `LONGEST_LINE` or `MOST_TRAILERS`, with
-    /// `UnexpectedEof` if the reader ends within the body, and with the reader's kind if the reader fails. The data
-    /// before a fault are returned first, even those of an unfinished chunk. After the end or a fault, each read into a
-    /// nonempty `buf` reports it again without calling the reader.
+    /// Fails with `InvalidData` if the body breaks the `ChunkRules`, or exceeds `LONGEST_LINE` or `MOST_TRAILERS`; with
+    /// `UnexpectedEof` if the reader ends within the body; and with the reader's error kind if the reader fails. The
+    /// data before a fault are returned first, even those of an unfinished chunk. After the end or a fault, each read
+    /// into a nonempty `buf` reports it again without calling the reader.
     pub fn read<R: ReadDevice>(
         &mut self,
         reader: &mut R,
@@ -247,7 +248,7 @@ impl Decoding {
     ) -> Result<usize, io::Error>
         ensures bound { IfOk result (λ n. n ≤ length buf.new) }
         ensures rules { decoding_rules self.new ≡ decoding_rules self.old }
-        // The bytes that came are the next ones of the data.
+        // The bytes that were read are the next ones of the data.
         ensures data { IfOk result
             (λ n. decoding_coming self.old (R.feed reader.old)
             ≡ prepended_data (take n buf.new) (decoding_coming self.new (R.feed reader.new))) }
@@ -269,9 +270,9 @@ impl Decoding {
         ensures takes { TakesFront (R.feed reader.old) (R.feed reader.new) }
         // Up to a fault no byte is consumed beyond the one that shows it.
         ensures needed { OnErr result (TakesNeeded (decoding_reads self.old) (R.feed reader.old) (R.feed reader.new)) }
-        // The reader reports at most one end or fault, and none if bytes came.
+        // The reader reports at most one end or fault, and none if bytes were read.
         ensures stop_count { Tells (R.stop_count reader.old) (R.stop_count reader.new) result }
-        // It reports none unless this call fails, since the body's own end is a line.
+        // The reader reports an end or fault only if this call fails, since a line ends the body.
         ensures whole { R.stop_count reader.new ≤ R.stop_count reader.old + fault_count result }
     {
         if buf.is_empty() {
@@ -307,7 +308,7 @@ impl Decoding {
 }
 
 /// A reader of the data of a chunked body. It consumes no byte of the inner reader after the trailer section. If the
-/// decoder is dropped or taken apart before the end, the rest of the body stays unread.
+/// decoder is dropped, or turned back into its inner reader, before the end, the rest of the body stays unread.
 #[derive(Drop)]
 pub struct Decoder<R> {
     inner: R,
@@ -325,7 +326,7 @@ impl<R: ReadDevice> Decoder<R> {
         ensures whole { (feed : Feed) (body rest : List ℕ) → R.feed inner ≡ Some feed → WholeChunks feed.bytes body rest
             → decoder_coming R.feed result
             ≡ Some (record { bytes = body; behind = Ok (record { bytes = rest; stop = feed.stop }) }) }
-        // Any other body decodes to the data that are there, then the fault.
+        // Any other body decodes to its data before the fault, then reports the fault.
         ensures front { (feed : Feed) (body : List ℕ) (kind : ErrorKind)
             → R.feed inner ≡ Some feed
             → CutChunks feed.bytes feed.stop body kind
@@ -344,7 +345,7 @@ impl<R: ReadDevice> Decoder<R> {
             → WholeChunksBy rules feed.bytes body rest
             → decoder_coming R.feed result
             ≡ Some (record { bytes = body; behind = Ok (record { bytes = rest; stop = feed.stop }) }) }
-        // Any other body decodes to the data that are there, then the fault.
+        // Any other body decodes to its data before the fault, then reports the fault.
         ensures front { (feed : Feed) (body : List ℕ) (kind : ErrorKind)
             → R.feed inner ≡ Some feed
             → CutChunksBy rules feed.bytes feed.stop body kind

@@ -24,8 +24,8 @@ pub fn put_chunk<W: WriteDevice>(writer: &mut W, bytes: &[u8]) -> Result<(), io:
     put_all(writer, &[size.as_bytes(), b"\r\n", bytes, b"\r\n"])
 }
 
-/// Writes the final bytes as a chunk, if there are any, then the last chunk with an empty trailer section (RFC 9112,
-/// section 7.1). Fails as `put_chunk` does.
+/// Writes the remaining bytes of a body as a chunk, if there are any, then the last chunk and an empty trailer section
+/// (RFC 9112, section 7.1). Fails as `put_chunk` does.
 pub fn put_last<W: WriteDevice>(writer: &mut W, bytes: &[u8]) -> Result<(), io::Error>
     ensures { Puts (W.sink writer.old) (W.sink writer.new) result (short_chunk bytes.now ++ codes "0\r\n\r\n") }
 {

@@ -21,12 +21,12 @@ use tiny_http_text::text::trim;
 /// Maximum length in bytes of a body that is read with its head (as in the original).
 pub const LONGEST_WITH_HEAD: usize = 1024;
 
-/// Maximum length of a head in bytes under `Strict`, the CR LF of its empty line included (RFC 6585, section 5, gives
-/// no number).
+/// Maximum length of a head in bytes under `Strict`, the CR LF of its empty line included (RFC 6585, section 5, sets no
+/// maximum).
 pub const STRICT_HEAD: usize = 65_536;
 
 /// Maximum length of a head in bytes under `Standard`, its empty lines included (RFC 9112, section 3, and RFC 6585,
-/// section 5, give no number).
+/// section 5, set no maximum).
 pub const STANDARD_HEAD: usize = 65_536;
 
 /// How strictly requests are validated.
@@ -47,7 +47,7 @@ pub enum Profile {
     Standard,
 }
 
-/// The rules for heads that are read according to the original's grammar, which is under the profiles other than
+/// The rules for heads that are read according to the original's grammar, that is, under the profiles other than
 /// `Standard`.
 #[derive(Clone, Copy, Debug, PartialEq, Eq)]
 pub enum HeadRules {
@@ -114,7 +114,7 @@ pub struct Framing {
     pub is_last: bool,
 }
 
-/// Returns the value of the first field of this name, compared case-insensitively.
+/// Returns the value of the first field with this name, ignoring letter case.
 pub fn value_of<'a>(headers: &'a [Header], name: &str) -> Option<&'a AsciiString>
     ensures { option_copied result ≡ value_of name.now headers.now }
 {
@@ -223,7 +223,8 @@ fn uncoded_length(headers: &[Header]) -> Result<Option<usize>, FramingFault>
 }
 
 // Returns the length under `Strict`, given whether there are `Transfer-Encoding` and `Content-Length` fields. Fails
-// with `Invalid` if both come, if the last coding isn't `chunked`, or if the `Content-Length` values aren't one number.
+// with `Invalid` if there are both, if the last coding isn't `chunked`, or if the `Content-Length` values aren't one
+// number.
 fn strict_length(
     is_coded: bool,
     is_sized: bool,
@@ -263,7 +264,8 @@ fn body_length(
     }
 }
 
-// Returns whether a 100 is due, given the value of `Expect`, or `None` if the expectation can't be met.
+// Given the value of `Expect`, if there is one, returns whether a 100 is due, or `None` if the expectation can't be
+// met.
 fn expectation(value: Option<&AsciiString>) -> Option<bool>
     ensures { result ≡ expectation (option_copied value.entry) }
 {
@@ -274,8 +276,8 @@ fn expectation(value: Option<&AsciiString>) -> Option<bool>
     }
 }
 
-/// Returns the form of a body of this length, or of no body: one of at most `LONGEST_WITH_HEAD` bytes is read with its
-/// head unless a 100 is due, as `owed` says (RFC 9112, section 6.3).
+/// Returns the form of a body of this length; `None` and 0 mean that there is no body (RFC 9112, section 6.3). A body
+/// of 1 to `LONGEST_WITH_HEAD` bytes is read with its head, unless a 100 is due (`owed`).
 pub fn sized_form(owed: bool, length: Option<usize>) -> Form
     ensures { result ≡ sized_form owed length }
 {

@@ -22,8 +22,8 @@ fn read_into_front<D: ReadDevice>(
     read_some(source, &mut buf[..n])
 }
 
-// Copies some of the next `left` bytes through the buffer and returns how many. Fails with `UnexpectedEof` if the data
-// end.
+// Copies some of the next `left` bytes through the buffer, and returns how many. Fails with `UnexpectedEof` if the data
+// end, or with the first fault of the data or the writer.
 fn put_piece<D: ReadDevice, W: WriteDevice>(
     source: &mut D,
     writer: &mut W,
@@ -75,8 +75,8 @@ const SHORT: usize = 256;
 
 const SMALL: usize = 1024;
 
-/// Writes the first `n` bytes of the data, as they come. Fails with `UnexpectedEof` if there are fewer, and otherwise
-/// with the first fault of the data or the writer, after which nothing more is written.
+/// Writes the first `n` bytes of the data, as they arrive. Fails with `UnexpectedEof` if the data end before that, or
+/// with the first fault of the data or the writer. After a failure nothing more is written.
 pub fn put_exactly<D: ReadDevice, W: WriteDevice>(
     source: &mut D,
     writer: &mut W,

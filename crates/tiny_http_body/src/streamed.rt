@@ -23,9 +23,9 @@ pub enum StreamedForm {
     Absent,
 }
 
-/// A writer of a body that grows while it is sent. It buffers at most 8191 bytes, and sends them on `flush` or once
-/// there are 8192, as one chunk if the body is chunked. `finish` sends the buffered bytes and the end of the body. If
-/// the writer is dropped instead, nothing more is sent, so a chunked body is visibly cut.
+/// A writer of a body that grows while it is sent. Between calls it buffers at most 8191 bytes. It sends the buffered
+/// bytes on `flush`, or once there are 8192, as one chunk if the body is chunked. `finish` sends the buffered bytes and
+/// the end of the body. If the writer is dropped instead, nothing more is sent, so a chunked body is visibly cut.
 ///
 /// After the inner writer's first fault nothing more is written: each later call fails with `BrokenPipe`.
 #[derive(Drop)]

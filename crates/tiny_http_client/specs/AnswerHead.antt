@@ -12,8 +12,8 @@ header_pair h = (h.field, h.value)
 abbrev pub field_pair : Field → List ℕ × List ℕ
 field_pair f = (f.name, field_value f)
 
--- Whether an `AnswerHead` is this head: it has the head's version, its status, and its headers, each value without
--- white space around it.
+-- Whether an `AnswerHead` is this head: it has the head's version, status and headers, each value with the white space
+-- around it removed.
 pub record IsHeadOf (h : ResponseHead) (a : AnswerHead) : Type 0 where
   pub version : a.version ≡ record { 0 = 1; 1 = h.minor }
   pub status : a.status.0 ≡ status_code h

@@ -47,8 +47,8 @@ HasChunkData bytes =
     (body : List ℕ) × (0 < length body)
     × (((rest : List ℕ) × WholeChunks bytes body rest) ⊎ ((kind : ErrorKind) × CutChunks bytes End body kind))
 
--- whether memory for a body of this extent may be requested: for the data of chunks, if there are any, and for as many
--- bytes as the length states, once these have arrived
+-- whether memory for a body of this extent may be requested: for the data of chunks, if there are any; or for as many
+-- bytes as the length states, once these bytes have arrived
 abbrev pub WantsMemory : Extent → List ℕ → Type 0
 WantsMemory NoBody bytes = ⊥
 WantsMemory OfChunks bytes = HasChunkData bytes

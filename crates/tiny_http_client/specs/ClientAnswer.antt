@@ -70,7 +70,8 @@ pub record BeginsWithAnswerHead (bytes : List ℕ) (head : AnswerHead) (after : 
   pub names : BeginsWithFieldLines fields head.headers empty
   pub ends : Line empty [] after
 
--- whether a response with this status is interim: from 100 to 199; it is only a head, which is skipped
+-- whether a response with this status is interim, that is, whether the status is from 100 to 199; an interim response
+-- is only a head, which is skipped
 abbrev pub is_interim : ℕ → Bool
 is_interim status = nat_le 100 status && nat_lt status 200
 
@@ -92,7 +93,7 @@ abbrev pub is_head : Method → Bool
 is_head Head = true
 is_head _ = false
 
--- whether no body follows the head: in a response to a HEAD, in a 204 and in a 304
+-- whether no body follows the head, as in a 204, a 304, or any response to a HEAD
 abbrev pub has_no_body : Method → ℕ → Bool
 has_no_body method status = is_head method || (status == 204 || status == 304)
 
@@ -194,8 +195,8 @@ LacksAnswer method bytes lack =
 abbrev pub UnfinishedAnswer : Method → List ℕ → Type 0
 UnfinishedAnswer method bytes = LacksAnswer method bytes Unfinished
 
--- THE BYTES BREAK A RULE: whether they do in a finished line of a head, in a chunked body, or by a head that doesn't
--- state the length of its body.
+-- THE BYTES BREAK A RULE: whether a finished line of a head or a chunked body breaks one, or a head doesn't state the
+-- length of its body.
 abbrev pub MalformedAnswer : Method → List ℕ → Type 0
 MalformedAnswer method bytes = LacksAnswer method bytes Invalid
 

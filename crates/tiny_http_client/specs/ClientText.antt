@@ -46,8 +46,8 @@ abbrev pub framing_of : Coding → Option ℕ → Feed → FramingHeader
 framing_of Chunked length feed = TransferEncoding
 framing_of Identity length feed = ContentLength (stated_length length feed)
 
--- the framing of a response that isn't an upgrade, given the framing of one that is only a head because of its code, if
--- it is one, and the coding, the data length and the feed
+-- the framing of a response that isn't an upgrade, given its framing if it is only a head because of its code, and the
+-- coding, the data length and the feed
 abbrev pub framing_said : Option FramingHeader → Coding → Option ℕ → Feed → FramingHeader
 framing_said (Some framing) coding length feed = framing
 framing_said None coding length feed = framing_of coding length feed
@@ -61,8 +61,8 @@ sent_data Identity (Some n) feed = take n feed.bytes
 abbrev pub sent_body : Coding → Option ℕ → Feed → Bool → List ℕ
 sent_body coding length feed withheld = if withheld then [] else sent_data coding length feed
 
--- the body that is sent, given the framing of a response that is only a head because of its code, if it is one: then it
--- is empty
+-- the body that is sent, given the framing of a response that is only a head because of its code, if the response is
+-- one; the body of such a response is empty
 abbrev pub body_said : Option FramingHeader → Coding → Option ℕ → Feed → Bool → List ℕ
 body_said (Some framing) coding length feed withheld = []
 body_said None coding length feed withheld = sent_body coding length feed withheld
@@ -97,6 +97,6 @@ pub record IsReadableAnswer (method : Method) (a : Answer) (feed : Feed) (p : Pr
   pub minor_fits : p.version.1 ≤ 255
   pub length_fits : stated_length a.data_length feed < 2 ^ 64
   pub readable : AllByRecursion IsReadable (listed_of a p)
-  -- The list of a response never holds these two headers.
+  -- The header list of a response never holds these two headers.
   pub no_coding : has_header a.headers (codes "Transfer-Encoding") ≡ false
   pub no_length : has_header a.headers (codes "Content-Length") ≡ false

@@ -88,9 +88,9 @@ fn read_whole(alloc: Global, method: &Method, rest: &mut Rest<'_>) -> Result<Ans
 /// follow, up to an empty line. Each has a name without white space (bytes 9 to 13 and 32) or colon, then a colon,
 /// exactly one space, and the value, which is kept as it is.
 ///
-/// No body follows a response to a `HEAD`, a 204 or a 304. Otherwise, if the value of some `Transfer-Encoding` is just
-/// `chunked`, the body is sent in chunks, which `chunked::Decoding` reads. Otherwise the first `Content-Length` is its
-/// length in bytes: one or more decimal digits, at most 2^64 - 1. Letter case is ignored in these two names and in
+/// No body follows a 204, a 304, or any response to a `HEAD`. Otherwise, if the value of some `Transfer-Encoding` is
+/// just `chunked`, the body is sent in chunks, which `chunked::Decoding` reads. Otherwise the first `Content-Length` is
+/// its length in bytes: one or more decimal digits, at most 2^64 - 1. Letter case is ignored in these two names and in
 /// `chunked`.
 ///
 /// # Errors

@@ -19,9 +19,9 @@ pub const MOST_HEADERS: usize = 64;
 pub struct AnswerHead {
     /// The version in its status line: 1.0 or 1.1.
     pub version: HTTPVersion,
-    /// The status, of three digits. If it is below 200, except 101, another head follows.
+    /// The status, of three digits. If it is below 200 and isn't 101, another head follows.
     pub status: StatusCode,
-    /// The headers in order, each value without spaces and tabs around it.
+    /// The headers in order, each value with the spaces and tabs around it removed.
     pub headers: Vec<Header>,
 }
 

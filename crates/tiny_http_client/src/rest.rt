@@ -45,14 +45,12 @@ impl<'a> Model for Rest<'a> {
 }
 
 impl<'a> Rest<'a> {
-    /// Creates a reader of these bytes.
     pub(crate) fn new(bytes: &'a [u8]) -> Rest<'a>
         ensures { result ≡ bytes.now }
     {
         Rest { bytes }
     }
 
-    /// Returns the number of bytes left.
     pub(crate) fn len(&self) -> usize
         ensures { result ≡ length self.now }
     {

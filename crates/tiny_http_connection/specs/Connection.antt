@@ -166,7 +166,7 @@ pub record IsUpgraded (s : Slot) (body : UnreadBody) : Type 0 where
   pub written : List ℕ
   pub stage : opened.stage ≡ Upgraded protocol response date written false
 
--- whether this is the slot of an unfinished number of which this is kept
+-- whether this is the slot of an unfinished number of which the connection keeps this `Unfinished`
 abbrev pub KeepsUnfinished : Slot → Unfinished → Type 0
 KeepsUnfinished s (still.Waiting w) = IsWaiting s w
 KeepsUnfinished s still.Raw = IsRaw s
@@ -183,7 +183,7 @@ pub record IsLeft (s : Slot) (text : List ℕ) : Type 0 where
   pub whole : is_slot_broken s ≡ false
   pub same : segment s ≡ text
 
--- whether this is the slot of a number with this mark, of which this is kept
+-- whether this is the slot of a number that has this mark and of which the connection keeps this `Unfinished`, if any
 abbrev pub IsKept : Slot → Mark → Option Unfinished → Type 0
 IsKept s Open (Some u) = KeepsUnfinished s u
 IsKept s (Left text) None = IsLeft s text
@@ -288,8 +288,8 @@ PlaceIn client p past feed rest =
     PlaceAt p past feed rest × (past ≡ false → BeginsBehindAt p feed rest → BeginsMore p client)
 
 -- Where the next head is read, while the requests haven't ended: after the last body. No further head is read after the
--- last head, or after a chunked body that was given up before its end. The input state says whether the position is
--- within the last body.
+-- last head, or after a chunked body that was given up before its end was reported. The input state says whether the
+-- position is within the last body.
 pub record NextHead (client : Feed) (k : Kept) (last : Option Slot) (rest : List Item) : Type 0 where
   pub is_last : is_past_last k.input_state ≡ is_last_slot last
   pub within : is_in_body k.input_state ≡ (not (is_last_slot last) && is_streaming_body (last_body k.requests))
@@ -306,9 +306,9 @@ pub record InputMatches (client : Feed) (k : Kept) (slots : List Slot) (rest : L
   pub follows : last_holds_next_head k.requests ≡ true → FollowsLast (last_body k.requests) (last_slot slots) k.feed
   pub source : GoesOn (Some client) k.feed
 
--- Whether this is the output so far. If the writer hasn't failed, it is the joined segments, which begin with what was
--- flushed, and the writer has sent that on unless the output has ended. If the writer has failed, it is what the writer
--- took until then.
+-- Whether `sink`, what the writer states together with what is held, has the output so far. If the writer hasn't
+-- failed, that output is the joined segments, which begin with `flushed`, and the writer has sent `flushed` on unless
+-- the output has ended. If the writer has failed, that output is what the writer took until then.
 abbrev pub OutputAt : Sink → Sink → Bool → List Slot → List ℕ → Option Failure → Type 0
 OutputAt before sink ended slots flushed None =
     (sink.taken ≡ Some (joined slots))

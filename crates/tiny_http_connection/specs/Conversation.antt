@@ -81,7 +81,7 @@ MayFare (Reported own None flushes report) old slots (FailsAfter f) =
 MayFare (Reported own (Some kind) flushes report) old slots (FailsAfter f) =
     FallsBetween old.flushed (joined old.reached.slots ++ own) f
 
--- the reply to a step in which the writer fares like this: made from the writer's fault if the writer fails within,
+-- the reply to a step in which the writer fares like this: made from the writer's fault if it fares `FailsWithin`,
 -- otherwise from the fault of the step's data, if any, and otherwise the planned reply
 abbrev pub reply_in : WriterUse → ReplyValue → Fares → ReplyValue
 reply_in (Reported own broken flushes report) planned (FailsWithin f) = report f.kind
@@ -243,8 +243,9 @@ WithinLast p ended (Some s) (Some feed) rest = WithinBody p ended s s.item feed 
 WithinLast p ended _ _ rest = ⊥
 
 -- WHERE THE INPUT IS. While the last body is open, the position is within it, even once the requests have ended.
--- Otherwise, until the requests end: the input has ended if a chunked body was given up before its end, and else the
--- bytes to come hold the rest of the pipeline.
+-- Otherwise nothing is required once the requests have ended. Before that, the input has ended if a chunked body was
+-- given up before its end was reported; if not, the bytes to come hold the rest of the pipeline, which is empty after
+-- the last head.
 abbrev pub InputAt : Profile → Reached → Option Feed → Type 0
 InputAt p old feed =
     MatchBool (last_is_open (last_slot old.slots))

@@ -1,5 +1,5 @@
--- A run over a feed by the rules of tiny_http, computed for a writer that takes everything: a plain reading that tests
--- the definitions. The laws of `InShort` can be understood without this file.
+-- A run over a feed under `Lenient` or `Strict` (`HeadRules`), computed for a writer that takes all bytes: a plain
+-- reading that tests the definitions. The laws of `InShort` can be understood without this file.
 use Rattle.std.specs.Prelude.{ℕ, Bool, true, List, [], ◌∷◌, if◌then◌else◌}
 use Rattle.std.specs.Prelude.{false}
 use Rattle.tiny_http_io.specs.Device.{Feed}
@@ -10,7 +10,7 @@ use Rattle.tiny_http_connection.specs.Steps.{ReplyValue, TimedValue}
 use Rattle.tiny_http_connection.specs.Outcomes.{WriterUse, Reached, outcome}
 use Rattle.tiny_http_connection.specs.Conversation.{Well, reply_in, reached_by}
 
--- the reply to a step if the writer takes everything; if `over` holds, the output had ended before the step
+-- the reply to a step if the writer takes all bytes; if `over` holds, the output had ended before the step
 abbrev pub reply_of : WriterUse → Bool → ReplyValue → ReplyValue
 reply_of writer over planned = if over then planned else reply_in writer planned Well
 

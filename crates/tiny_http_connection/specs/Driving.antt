@@ -1,4 +1,4 @@
--- The effects of the calls of a `Connection`. The laws of `InShort` can be understood without this file.
+-- The effects of the calls on a `Connection`. The laws of `InShort` can be understood without this file.
 use Rattle.std.specs.Prelude.{◌≡◌, ◌⊎◌, ◌||◌, ℕ, ◌+◌, Bool, true, false, List, [], ◌∷◌, ◌++◌, length, replicate}
 use Rattle.std.specs.Prelude.{Option, Some, None, IsSome, MatchBool, drop, slice_get, slice_set, if◌then◌else◌}
 use Rattle.std.specs.Prelude.{string_bytes, ◌<◌, ◌≤◌, ◌^◌, ⊤, nat_lt}
@@ -138,7 +138,7 @@ IsFree c = (c.source.input_state ≡ at.Body → ⊥) × (last_holds_next_head c
 
 -- How an Ask ends the requests, depending on its reply: for a reason in the client's bytes, or because memory for a
 -- head was refused. After the end an Ask changes nothing, and after the last request it leaves the source unchanged. It
--- reads no head if the source has ended, nor while the last request holds the reader, and only the latter makes it
+-- reads no head if the source has ended, nor while the last request holds the reader; only in the second case does it
 -- wait.
 abbrev pub AskEnds : {R W : Type 0} → ConnectionState R W → ConnectionState R W → ReplyValue → Type 0
 AskEnds old new (Handed k message framing) =
@@ -387,8 +387,8 @@ ReadLeaves k n old new Memory = (is_readable (slice_get old.requests k) ≡ true
 ReadLeaves k n old new _ = ⊥
 
 -- What a step leaves of the requests, the source and the output. An AsReader sends the 100 that its request is owed. A
--- Read changes at most the body of its request, and the source if the body is read from it. A Respond, a Drop and a
--- Finish remove their request. An IntoWriter gives up the body.
+-- Read changes at most the body of its request, and the source if the body is read from the source. A Respond, a Drop
+-- and a Finish remove their request. An IntoWriter gives up the body.
 abbrev pub StepLeaves : {R W : Type 0} → Step (Option Feed) → HttpDate → ConnectionState R W → ConnectionState R W
     → ReplyValue → Type 0
 StepLeaves step.Ask now old new reply = AskLeaves now old new reply
@@ -464,8 +464,8 @@ RespondReports old new now k r reply =
     ⊎ ((kind : ErrorKind) × (reply ≡ fault_reply kind) × ReportsFault old new now (step.Respond k r) kind)
     ⊎ ((begins_left (drop (k + 1) old.marks) ≡ true) × AnswerIsSentOn old new now k r)
 
--- HOW MANY ENDS AND FAULTS OF THE CLIENT A READ MEETS on this number: none, or at most as many as what it gave of the
--- body and left of it allow.
+-- HOW MANY ENDS AND FAULTS OF THE CLIENT A READ MEETS on this number: none, or at most as many as `ends_met` allows for
+-- the bytes that it gave and the body that it left.
 abbrev pub ReadMeets : {R W : Type 0} → (R → ℕ) → ConnectionState R W → ConnectionState R W → ℕ → ReplyValue → Type 0
 ReadMeets stop_count old new k reply =
     (stop_count new.source.reader ≤ stop_count old.source.reader)

@@ -81,8 +81,8 @@ asks_from date writer slots (Refuses refusal manner no_body last ∷ items) =
     (slots ++ new_slot date (Refuses refusal manner no_body last) ∷ []) items
 
 -- The outcome of an Ask: `Ended` once asking has ended; `NotYet` while the last request that was handed out holds the
--- reader; `Ended` after a chunked body that was given up before its end; else the next request of the pipeline, or
--- `Ended` if there is none.
+-- reader; `Ended` after a chunked body that was given up before its end was reported; otherwise the next request of the
+-- pipeline, or `Ended` if there is none.
 abbrev pub ask : HttpDate → Reached → Outcome
 ask date old =
     if old.asking_ended then unchanged old Ended else
@@ -172,9 +172,9 @@ abbrev pub asked_to_close : Bool → Reached → Reached
 asked_to_close closes old =
     if closes then record old { slots = with_last closing_slot old.slots; asking_ended = true } else old
 
--- The outcome of a Respond to the request of this slot, or `NoSuch` without a slot. `found`, here and in the
--- definitions below: whether memory was found for response data that have to be read whole before the head is sent.
--- Without that memory the response sends no byte, and its fault is `OutOfMemory`.
+-- The outcome of a Respond to the request of this slot, or `NoSuch` without a slot. `found`: whether memory was found
+-- for response data that have to be read whole before the head is sent. Without that memory the response sends no byte,
+-- and its fault is `OutOfMemory`.
 abbrev pub answers_slot : Bool → HttpDate → Reached → Request → ℕ → ResponseValue → Option Slot → Outcome
 answers_slot found date old r k response None = unchanged old NoSuch
 answers_slot found date old r k response (Some s) =
@@ -214,7 +214,7 @@ streams old r s k new writer =
     ends_asking (ends_with_stream r s.owed s.given s.end_reported) (changes old k new Done writer)
 
 -- the outcome of a step on this request that its number accepts and that needn't wait; `turn`: whether the number's
--- turn has come
+-- turn has come; `found`: whether memory was found for response data that have to be read whole
 abbrev pub effect : Bool → HttpDate → Reached → Request → Slot → Bool → StepValue → Outcome
 effect found date old r s turn (AsReader k) =
     if s.owed then changes old k (record s { owed = false; continued = Some date }) Done Unreported

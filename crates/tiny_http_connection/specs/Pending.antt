@@ -49,8 +49,8 @@ begins_left (Left text ∷ marks) = true
 begins_left (Finished ∷ marks) = false
 
 -- whether the texts of the numbers at the front that are marked `Left` were sent, unless the output had ended, and
--- flushed; or, if there is no such number, nothing was done; `was` and `ended`: whether the output had ended before,
--- and has ended afterwards
+-- flushed; if there is no such number, whether nothing was done; `was` and `ended`: whether the output had ended
+-- before, and has ended afterwards
 abbrev pub SendsLeft : List Mark → Bool → Sink → Sink → Bool → Type 0
 SendsLeft rest was old new ended =
     MatchBool (begins_left rest) (SendsUnlessEnded was old new ended (left_text rest)
@@ -63,8 +63,8 @@ abbrev pub FinishesFront : List Mark → List Mark → List Mark → Type 0
 FinishesFront front rest new = new ≡ front ++ (Finished ∷ with_left_finished rest)
 
 -- Whether this text was left for the open number between `front` and `rest`. If its turn had come, the text was sent,
--- unless the output had ended, with the texts of those directly after it that were marked `Left`; else it waits. `was`
--- and `ended`: whether the output had ended before, and has ended afterwards.
+-- unless the output had ended, with the texts of the numbers directly after it that were marked `Left`; otherwise it
+-- waits. `was` and `ended`: whether the output had ended before, and has ended afterwards.
 abbrev pub LeavesText : Bool → List Mark → List Mark → List Mark → List ℕ → Bool → Sink → Sink → Bool → Type 0
 LeavesText in_turn front rest marks text was old new ended =
     MatchBool in_turn
@@ -170,7 +170,7 @@ kept_body (Some (still.Waiting w)) = Some w.body
 kept_body (Some still.Raw) = None
 kept_body (Some (still.Upgraded b)) = Some b
 
--- whether this body was given up; without a body, whether the source is unchanged
+-- whether this body was given up; if there is none, whether the source is unchanged
 abbrev pub GivesUpIfKept : {R : Type 0} → Option UnreadBody → SourceState R → SourceState R → Type 0
 GivesUpIfKept None old new = new ≡ old
 GivesUpIfKept (Some b) old new = GivesUp b old new

@@ -70,7 +70,7 @@ pub record RunsSteps {R W D : Type 0} (client : R → Option Feed) (stop_count :
   pub states : done.outlet.sink ≡ sink done.outlet.writer
   -- the writer failed at most once
   pub fails_once : FailsAtMostOnce (sink writer) (sink done.outlet.writer)
-  -- Nothing is held, unless a Write that was done follows the last Flush, Respond or Upgrade that was done. If the
-  -- writer held nothing back before the run, it then sent on all that it took.
+  -- Nothing is held, unless a Write that was done follows the last Flush, Respond or Upgrade that was done. If,
+  -- besides, the writer held nothing back before the run, it has sent on all that it took.
   pub flushed : all_sent steps done.replies.items true ≡ true → done.outlet.held ≡ []
   pub sent_on : HoldsNothing (sink writer) → all_sent steps done.replies.items true ≡ true → SentOn done.outlet

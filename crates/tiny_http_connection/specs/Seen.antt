@@ -67,7 +67,8 @@ ReportsOfWriter old new reply =
     (new.failures ≡ old.failures) ⊎ ((kind : ErrorKind) × (reply ≡ Fault kind) × IsOfWriter old new kind)
 
 -- WHETHER ALL BYTES WERE SENT ON after a step, given whether they were before it. A Write that is done may hold its
--- bytes back; a Flush, a response or an upgrade that is done holds none back. The other steps change nothing.
+-- bytes back; a Flush, a response or an upgrade that is done holds none back. Any other step leaves the value as it
+-- was.
 abbrev pub all_sent_after : {D : Type 0} → Step D → ReplyValue → Bool → Bool
 all_sent_after step.Ask reply sent = sent
 all_sent_after (step.AsReader k) reply sent = sent
@@ -80,7 +81,7 @@ all_sent_after (step.Upgrade k p r) reply sent = sent || is_done reply
 all_sent_after (step.Finish k) reply sent = sent
 all_sent_after (step.Drop k) reply sent = sent
 
--- whether all bytes were sent on after all these steps, each with its reply
+-- whether all bytes were sent on after all these steps, each with its reply, given whether they were before the first
 abbrev pub all_sent : {D : Type 0} → List (Timed D) → List Reply → Bool → Bool
 all_sent [] [] sent = sent
 all_sent (t ∷ steps) (r ∷ replies) sent = all_sent steps replies (all_sent_after t.step (seen r) sent)

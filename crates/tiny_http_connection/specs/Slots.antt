@@ -103,7 +103,7 @@ holds_next_head r = r.framing.asks_upgrade && not r.framing.is_last
 
 -- What is left of the body of a request that is finished now. `Endless`: its end isn't known, since chunks were not
 -- read to their end, or a read met a cut or broken body. `Long`: more of its content length is left than is skipped.
--- `Skipped`: any other.
+-- `Skipped`: in any other case.
 abbrev pub remainder_of : Request → ℕ → Bool → Remainder
 remainder_of r given end_reported =
     if (is_chunked_form r.framing.form && not end_reported)
@@ -113,8 +113,8 @@ remainder_of r given end_reported =
     && (not end_reported && nat_lt MOST_SKIPPED (body_length_or_0 r.framing - given)) then left.Long
     else left.Skipped
 
--- Whether no head is read after a request that is finished now: under Standard, if its 100 wasn't sent, so that the
--- client may or may not send the body, or if more of its body is left than is skipped.
+-- Whether no head is read after a request that is finished now: under Standard, if its 100 is owed, so that the client
+-- may or may not send the body, or if more of its content length is left than is skipped.
 abbrev pub ends_when_finished : Request → Bool → ℕ → Bool → Bool
 ends_when_finished r owed given end_reported =
     ends_once_finished r.framing.by_standard owed (remainder_of r given end_reported)
@@ -161,8 +161,8 @@ abbrev pub as_stream : Request → Request
 as_stream r =
     record r { framing = record r.framing { form = Rest; is_last = true }; body = r.behind; behind = whole_feed [] }
 
--- The slot of a number that is upgraded, in this stage. Under Standard its stream reads all that follows the request,
--- else the request's own body.
+-- The slot of a number that is upgraded, in this stage. Under Standard its stream reads all that follows the request;
+-- otherwise it reads what is left of the request's body.
 abbrev pub upgraded_slot : Request → Slot → Stage → Slot
 upgraded_slot r s stage =
     if r.framing.by_standard then record s

@@ -73,7 +73,7 @@ pub enum Step<D> {
 #[derive(Drop)]
 pub struct Timed<D> {
     /// The `Date` of the response that the step sends. The 500 for a dropped request has the date of the `Ask` that
-    /// handed it out.
+    /// handed out the request.
     pub now: HttpDate,
     /// The step.
     pub step: Step<D>,
@@ -110,8 +110,8 @@ pub enum Reply {
 ///
 /// It hands out the client's requests one after another, reads their bodies on demand, and sends the responses in the
 /// order of the requests (RFC 9112, section 9.3.2). A response that is made before its turn isn't sent, and gets the
-/// reply `NotYet`; the response to a dropped request waits for its turn. A program drives the connection call by call,
-/// and each call that `Step` names is a step of the connection theorem.
+/// reply `NotYet`, or `Refused` if it is refused; the response to a dropped request waits for its turn. A program
+/// drives the connection call by call, and each call that `Step` names is a step of the connection theorem.
 #[derive(Drop)]
 pub struct Connection<R: ReadDevice, W: WriteDevice> {
     profile: Profile,
@@ -239,9 +239,10 @@ impl<R: ReadDevice, W: WriteDevice> Connection<R, W> {
     }
 
     /// Returns why no further request is handed out, or `None` if that isn't known yet. It is known once an `ask` has
-    /// returned `Ended` or `Memory`, once a response made with `with_close` has been sent, and, under `Standard`, once
-    /// a request that was answered, dropped, upgraded or gave its raw writer has ended the requests as `ask` describes.
-    /// After the connection's last head it may be `None` until the next `ask`.
+    /// returned `Ended` or `Memory`, once `respond` has returned `Done` or `Fault` for a response made with
+    /// `with_close`, and, under `Standard`, once a request that was answered, dropped or upgraded, or whose raw writer
+    /// was taken, has ended the requests as `ask` describes. After the connection's last head it may be `None` until
+    /// the next `ask`.
     pub fn end_of_requests(&self) -> Option<EndOfRequests>
         ensures { result ≡ self.now.end }
     {
@@ -276,9 +277,9 @@ impl<R: ReadDevice, W: WriteDevice> Connection<R, W> {
     /// otherwise the same call reads the next head.
     ///
     /// Returns `Memory` if memory is refused, which ends the requests too, as does a chunked body that was given up
-    /// before its end. Under `Standard` the requests also end after one that asked for an upgrade, once it is upgraded
-    /// or gives its raw writer, and after one that is answered, dropped or gives its raw writer while its 100 is owed
-    /// or more than 65,536 bytes of a body with a `Content-Length` are unread.
+    /// before its end was reported. Under `Standard` the requests also end after one that asked for an upgrade, once it
+    /// is upgraded or its raw writer is taken, and after one that is answered or dropped, or whose raw writer is taken,
+    /// while its 100 is owed or more than 65,536 bytes of a body with a `Content-Length` are unread.
     ///
     /// The call waits for the client only until the head and a body of up to 1024 bytes have come, or only the head if
     /// the request expects a 100. Before that it waits for the rest of a body with a content length that was given up
@@ -347,10 +348,10 @@ impl<R: ReadDevice, W: WriteDevice> Connection<R, W> {
     /// them in `Given`, which is empty once the body has ended. The call sends nothing, and so takes no date.
     ///
     /// If the body is cut or broken, the read after its last byte returns `Fault`, as does each later read; a body with
-    /// a `Content-Length` that the end of input cuts has a fault only under `Standard`. Returns `NoSuch` if this number
-    /// neither awaits its response nor has the stream of an upgrade, and while its 100 is owed. Returns `Memory` if
-    /// memory for `count` bytes is refused; then nothing has changed. If `count` is 0, it returns `NoSuch` or an empty
-    /// `Given`.
+    /// a `Content-Length` that the end of input cuts has a fault under `Standard`, and otherwise ends there. Returns
+    /// `NoSuch` if this number neither awaits its response nor has the stream of an upgrade, and while its 100 is owed.
+    /// Returns `Memory` if memory for `count` bytes is refused; then nothing has changed. If `count` is 0, it returns
+    /// `NoSuch` or an empty `Given`.
     #[inline(never)]
     pub fn read(&mut self, alloc: Global, number: u64, count: u16) -> Reply
         ensures step { (date : Date) → TakesStep self.old self.new date (Step.Read number count) (seen result) }
@@ -420,9 +421,9 @@ impl<R: ReadDevice, W: WriteDevice> Connection<R, W> {
 
     /// Responds to the request of this number, gives up its body, and returns `Done`. `now` is the response's `Date`.
     /// Returns `Fault` if the writer failed while the response was sent, or the response's data broke off; then nothing
-    /// more is sent on the connection, and later responses are `Done` and unsent. A fault that means that the client
-    /// has disconnected is `Done` too. If memory is refused for data that have to be read whole before the head is
-    /// sent, the fault is `OutOfMemory`.
+    /// more is sent on the connection, and later responses are `Done` and unsent. For a fault that means that the
+    /// client has disconnected, the reply is `Done`. If memory is refused for data that have to be read whole before
+    /// the head is sent, the fault is `OutOfMemory`.
     ///
     /// Returns `NotYet` while a number before this one isn't finished, and `NoSuch` if this number doesn't await its
     /// response; then the response is dropped, and nothing has changed. Under `Standard` it returns `Refused`, in the
@@ -433,10 +434,10 @@ impl<R: ReadDevice, W: WriteDevice> Connection<R, W> {
     /// is owed, more than 65,536 bytes of a body with a `Content-Length` weren't given out, or the end of its body
     /// isn't known. This doesn't depend on what a later `ask` finds.
     ///
-    /// After a response that was made with `with_close` no further head is read: a later `ask` is `Ended`. Under
+    /// After a response that was made with `with_close` no further head is read: a later `ask` returns `Ended`. Under
     /// `Standard` the response to the last number issued so far says `Connection: close`: this response, or that to a
     /// later request or refused head. The response to a later request doesn't say it if that request was already
-    /// dropped, is upgraded, or gives its raw writer.
+    /// dropped, is upgraded, or its raw writer is taken.
     #[inline(never)]
     pub fn respond<D: ReadDevice + Drop>(
         &mut self,
@@ -539,9 +540,9 @@ impl<R: ReadDevice, W: WriteDevice> Connection<R, W> {
     ///
     /// Returns `Refused` if the protocol isn't ASCII, in the number's turn or before it; then the request is dropped.
     /// Under `Standard` it is also `Refused` if the request doesn't ask for this protocol or is its connection's last,
-    /// if the status code isn't 101, and if the body wasn't read until its end was reported, or was cut or is broken.
-    /// An empty body, or one of up to 1024 bytes that came with its head, needn't be read, and one with a content
-    /// length only to its last byte. Returns `NotYet` and `NoSuch` as `respond` does.
+    /// if the status code isn't 101, or if the body was cut, is broken, or wasn't read until its end was reported. An
+    /// empty body, or one of up to 1024 bytes that came with its head, needn't be read, and a body with a
+    /// `Content-Length` needs to be read only to its last byte. Returns `NotYet` and `NoSuch` as `respond` does.
     #[inline(never)]
     pub fn upgrade<D: ReadDevice + Drop>(
         &mut self,

@@ -205,7 +205,7 @@ impl Pending {
         }
     }
 
-    /// Returns whether this is the first number that isn't finished, or, if all are, the next to be issued.
+    /// Returns whether this is the first number that isn't finished, or, if all are finished, the next to be issued.
     pub fn is_in_turn(&self, number: u64) -> bool
         ensures { result ≡ (number == first_unfinished self.now.turns.marks) }
     {
@@ -457,7 +457,6 @@ pub(crate) fn close_body<R: ReadDevice>(finished: Unfinished, source: &mut Sourc
     }
 }
 
-// A number that is held.
 #[derive(Drop)]
 struct HeldNumber(u64);
 

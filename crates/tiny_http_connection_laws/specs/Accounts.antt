@@ -46,8 +46,8 @@ abbrev pub first_date : Option HttpDate → HttpDate → Option HttpDate
 first_date None date = Some date
 first_date (Some first) date = Some first
 
--- The account of a number after a step for it, given the reply. A Read, a Flush, and a step that was neither done nor
--- refused change nothing.
+-- The account of a number after a step for it, given the reply. An Ask, a Read, a Flush, and a step that was neither
+-- done nor refused change nothing.
 abbrev pub account_after : HttpDate → StepValue → ReplyValue → Account → Account
 account_after date Ask reply a = a
 account_after date (AsReader k) reply a = if is_done reply then record a { asked = first_date a.asked date } else a
@@ -178,8 +178,8 @@ OneEndsRequests (s ∷ steps) (reply ∷ replies) = EndsRequests s.1 reply ⊎ O
 OneEndsRequests _ _ = ⊥
 
 -- Whether a request was cut short: under Standard, the 100 that it expects was not sent, or more of its body was left
--- than is skipped, when it was finished or gave its raw writer; or its chunked body was given up before its end was
--- reported.
+-- than is skipped, when it was finished or its raw writer was taken; or its chunked body was given up before its end
+-- was reported.
 abbrev pub was_cut_short : Slot → Request → Bool
 was_cut_short s r =
     body_was_abandoned s (Asks r)

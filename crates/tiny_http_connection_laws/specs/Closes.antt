@@ -42,7 +42,7 @@ OwnsNoConnection (Answered response date found) = has_header response.answer.hea
 OwnsNoConnection _ = ⊤
 
 -- WHAT A CLIENT READS under Standard in a number's response, if that is whole, can be read and has no Connection header
--- of its own: that the connection closes exactly if the response says so.
+-- of its own: that the connection closes, exactly if the response says so.
 abbrev pub IsReadAsSaid : Slot → Type 0
 IsReadAsSaid s =
     CanBeReadAt Standard s

@@ -30,8 +30,8 @@ requests_from k (Refuses refusal manner no_body last ∷ items) = requests_from 
 
 -- ---- what a body gives
 
--- Whether `next` is left of the body of request k after a step with this reply, and `left` before it. After an upgrade
--- under Standard, the bytes after the request are left.
+-- Whether `next` is left of the body of request k after a step with this reply, if `left` was left before the step.
+-- After an upgrade under Standard, the bytes after the request are left.
 abbrev pub LeavesBody : ℕ → Request → Feed → StepValue → ReplyValue → Feed → Type 0
 LeavesBody k r left (Read j n) reply next = MatchBool (j == k) (ReadsNext n left reply next) (next ≡ left)
 LeavesBody k r left (Upgrade j protocol response) Done next =

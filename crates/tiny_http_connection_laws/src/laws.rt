@@ -41,9 +41,9 @@ pub fn requests_begin_the_pipeline()
 {}
 
 /// THE READS ARE THE BODY'S: the reads of each request give the next bytes of that request's body, one after another.
-/// They report an end or a fault only after the last byte, and it is the one that the body has. (If the client's end
-/// cuts a body with a content length, that body has an end under `Lenient` and `Strict`, and a fault under `Standard`.)
-/// After an upgrade under `Standard` the reads give what follows the request.
+/// They report an end or a fault only after the last byte, and only the end or the fault of that body. (If the client's
+/// end cuts a body with a content length, that body has an end under `Lenient` and `Strict`, and a fault under
+/// `Standard`.) After an upgrade under `Standard` the reads give what follows the request.
 pub fn reads_give_the_body()
     ensures next { (p : Profile) (feed : Feed) (before after : Sink) (steps : List TimedValue)
         (replies : List ReplyValue) (held : List ℕ) (ended : Bool) (unread : Option Feed)
@@ -88,9 +88,9 @@ pub fn output_joins_the_segments()
 {}
 
 /// EACH NUMBER IS AS ITS STEPS AND THEIR REPLIES SAY. Each request that was handed out has a number. The number is
-/// finished if a step finished it, and has the response of the step that answered it, if one did, and otherwise the
-/// server's or none. Its raw writer or stream has the bytes of its writes, joined. If its head expects a 100, that has
-/// the date on which it was first asked for.
+/// finished if a step finished it. Its response is that of the step that answered it, if one did; otherwise it is the
+/// server's, or there is none. Its raw writer or stream has the bytes of its writes, joined. If its head expects a 100
+/// and a step asked for that, the 100 has the date of the first such step.
 pub fn numbers_match_their_accounts()
     ensures reached { (p : Profile) (feed : Feed) (before after : Sink) (steps : List TimedValue)
         (replies : List ReplyValue) (held : List ℕ) (ended : Bool) (unread : Option Feed)
@@ -107,9 +107,10 @@ pub fn numbers_match_their_accounts()
 {}
 
 /// STEPS ARE TAKEN IN TURN. A step other than a read, for a request that was handed out and accepts the step, is done
-/// or refused once the numbers before it are finished; it is not put off. A response, a write, a flush and an upgrade
-/// are done only then. The reply is `NoSuch` if no request that was handed out accepts the step, and otherwise only to
-/// a read. An `Ask` is put off only while the last request that was handed out isn't finished.
+/// or refused, and not put off, once the numbers before it are finished; an `IntoWriter`, a `Drop` and a `Finish` are
+/// even before that. A response, a write, a flush and an upgrade are done only once those numbers are finished. The
+/// reply is `NoSuch` if no request that was handed out accepts the step, and otherwise only to a read. An `Ask` is put
+/// off only while the last request that was handed out isn't finished.
 pub fn steps_are_taken_in_turn()
     ensures done { (p : Profile) (feed : Feed) (before after : Sink) (steps later : List TimedValue)
         (replies more : List ReplyValue) (held : List ℕ) (ended : Bool) (unread : Option Feed) (date : HttpDate)
@@ -166,8 +167,8 @@ pub fn steps_are_taken_in_turn()
 {}
 
 /// THE END HAS A REASON. If an `Ask` reports the end, every request of the pipeline was handed out, and each refused
-/// head has a number; or a number stops the requests, such as one whose chunked body was given up before its end; or a
-/// step ended them: memory was refused, or a response asked to close the connection.
+/// head has a number; or a number stops the requests, such as one whose chunked body was given up before its end was
+/// reported; or a step ended them: memory was refused, or a response asked to close the connection.
 pub fn the_end_has_a_reason()
     ensures reason { (p : Profile) (feed : Feed) (before after : Sink) (steps : List TimedValue)
         (replies : List ReplyValue) (held : List ℕ) (ended : Bool) (unread : Option Feed)
@@ -188,7 +189,7 @@ pub fn the_end_has_a_reason()
 /// A header is readable if its name and its value are ASCII, its name has no white space and no colon, and its value is
 /// trimmed and has no CR LF. Under `Standard` this applies to headers as they are printed, and to the protocols that
 /// are offered: headers whose name isn't a token are left out, and a space replaces each byte that is invalid in a
-/// value. So a value whose first or last byte is replaced isn't trimmed.
+/// value. So a value whose first or last byte is replaced isn't trimmed, and isn't readable.
 ///
 /// The client reads the response to a refused head as one to a GET, except that under `Lenient` and `Strict` it reads
 /// the 505 to a HEAD as one to a HEAD. It reads the version, which under `Standard` is 1.1, the status, the headers as
@@ -196,8 +197,8 @@ pub fn the_end_has_a_reason()
 /// and `Upgrade` if they are needed), and the body that is sent. It skips a 100 before the response. After the last
 /// response nothing remains, or an unfinished prefix of the next number's text.
 pub fn conversation_is_read()
-    // However the writer failed, all that was sent and is held is the responses of the first numbers, then what
-    // remains.
+    // Even if the writer failed, the bytes that were sent or are held are the responses of the first numbers, and then
+    // what remains.
     ensures output { (p : Profile) (feed : Feed) (before after : Sink) (steps : List TimedValue)
         (replies : List ReplyValue) (held out : List ℕ) (ended : Bool) (unread : Option Feed)
         → (c : IsConversation p feed before steps replies after held ended unread)
@@ -238,7 +239,7 @@ pub fn size_of_what_is_skipped()
 /// A response says `close` if it is an error response to a refused head, or if that was decided when it was made:
 /// because of the request's head, a response that asked for it, a 100 that is owed, or what is left of the body. A
 /// client that can read the response reads `close` exactly if the response says it: as an element of `Connection`, a
-/// header that no response has of its own. So the client knows from the response that none follows.
+/// header that no response has of its own. So the client knows from the response that no further one follows.
 pub fn close_is_the_last()
     ensures none { (feed : Feed) (before after : Sink) (steps : List TimedValue) (replies : List ReplyValue)
         (held : List ℕ) (ended : Bool) (unread : Option Feed)
@@ -269,8 +270,8 @@ pub fn steps_can_be_read()
 /// The client theorem with its premise on the numbers that were reached. It is stronger than `conversation_is_read`:
 /// steps with the reply `NotYet` or `NoSuch` are unrestricted.
 pub fn slots_are_read()
-    // However the writer failed, all that was sent and is held is the responses of the first numbers, then what
-    // remains.
+    // Even if the writer failed, the bytes that were sent or are held are the responses of the first numbers, and then
+    // what remains.
     ensures output { (p : Profile) (feed : Feed) (before after : Sink) (steps : List TimedValue)
         (replies : List ReplyValue) (held out : List ℕ) (ended : Bool) (unread : Option Feed)
         → (c : IsConversation p feed before steps replies after held ended unread)

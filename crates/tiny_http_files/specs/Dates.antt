@@ -3,7 +3,7 @@ use Rattle.std.specs.Prelude.{ℕ, Bool, false, List, Option, Some, None, nat_le
 use Rattle.httpdate.specs.declared.date.HttpDate.{HttpDate}
 use Rattle.httpdate.specs.Date.{unix_secs, parse_secs}
 
--- whether a file was modified no later than the client's date; false if its value isn't a date (`None`)
+-- whether a file was modified no later than the client's date; false if the client's value isn't a date (`None`)
 abbrev pub is_no_later : ℕ → Option ℕ → Bool
 is_no_later modified None = false
 is_no_later modified (Some since) = nat_le modified since

@@ -6,7 +6,7 @@ ghost use Rattle.tiny_http_files.specs.Dates.{is_not_modified};
 use httpdate::HttpDate;
 
 /// Returns whether a client's copy is current: `since`, the value of `If-Modified-Since`, is a date, and the file was
-/// modified no later.
+/// modified no later than that date.
 ///
 /// The response should then be a 304 without content (`Response::contentless`). Without a value, or with one that isn't
 /// a date, it returns false (RFC 9110, section 13.1.3). The caller must ignore the field if the request has

@@ -20,8 +20,8 @@ fn is_unsafe_part(part: &str) -> bool
     part == "." || part == ".." || has_unsafe_byte(part.as_bytes())
 }
 
-/// Returns whether a path must not be looked up in a folder: a part between slashes is `..`, which may lead out of the
-/// folder, or `.`, or it contains a NUL or a backslash, which not every system allows in file names.
+/// Returns whether a path must not be looked up in a folder: one of the parts between its slashes is `..`, which may
+/// lead out of the folder, or `.`, or contains a NUL or a backslash, which not every system allows in file names.
 ///
 /// `path` must be the request's path (`Request::path`), percent-decoded, so that escaped slashes and dots count.
 /// Symbolic links may also lead out of the folder; if the folder may have them, compare the real path
@@ -39,7 +39,7 @@ pub fn is_unsafe(path: &str) -> bool
 
 /// Returns the path of a file in a folder: `folder` and `path` joined as they are. `path` must be the request's path
 /// (`Request::path`), percent-decoded. Returns `None` if `path` doesn't begin with a slash, or is unsafe (`is_unsafe`).
-/// The file may not exist, or may be a link. Fails if memory is refused.
+/// Whether the file exists, or is a link, isn't checked. Fails if memory is refused.
 pub fn below_folder(alloc: Global, folder: &str, path: &str) -> Result<Option<String>, AllocError>
     ensures { IfOk result (λ found. option_map string_bytes found ≡ below_folder folder.now path.now) }
 {

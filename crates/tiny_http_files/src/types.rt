@@ -1,7 +1,7 @@
 //! Media types of files (RFC 9110, section 8.3).
 
-/// Returns the media type of a file by the extension of its name, the text after the last dot. The extension must be in
-/// lower case. For a name without one of the known extensions it returns `application/octet-stream`.
+/// Returns the media type of a file by the extension of its name, the text after the last dot. The extension is
+/// compared case-sensitively. For a name without one of the known extensions it returns `application/octet-stream`.
 pub fn type_of(name: &str) -> &'static str {
     let Some((_, extension)) = name.rsplit_once('.') else {
         return "application/octet-stream";

@@ -24,7 +24,7 @@ same_name a b = bytes_eq (lowercase a) (lowercase b)
 abbrev pub IsSameLetter : ℕ → ℕ → Type 0
 IsSameLetter a b = (a ≡ b) ⊎ ((65 ≤ a) × (a ≤ 90) × (b ≡ a + 32)) ⊎ ((65 ≤ b) × (b ≤ 90) × (a ≡ b + 32))
 
--- whether the texts are equally long, and each pair of bytes differs at most in case
+-- whether the texts are equally long, and bytes at the same position differ at most in case
 abbrev pub IsSameButForCase : List ℕ → List ℕ → Type 0
 IsSameButForCase [] [] = ⊤
 IsSameButForCase [] (b ∷ more) = ⊥
@@ -78,7 +78,7 @@ nine_names =
     codes "GET" ∷ codes "HEAD" ∷ codes "POST" ∷ codes "PUT" ∷ codes "DELETE" ∷ codes "CONNECT" ∷ codes "OPTIONS" ∷
     codes "TRACE" ∷ codes "PATCH" ∷ []
 
--- whether the method isn't one of the nine names stored as `NonStandard`
+-- whether the method isn't a `NonStandard` with one of the nine names that have a variant
 abbrev pub HasItsOwnName : Method → Type 0
 HasItsOwnName Get = ⊤
 HasItsOwnName Head = ⊤
@@ -91,7 +91,7 @@ HasItsOwnName Trace = ⊤
 HasItsOwnName Patch = ⊤
 HasItsOwnName (NonStandard name) = list_any (bytes_eq name) nine_names ≡ false
 
--- the reason phrases by code, as in the original (most from RFC 9110, section 15)
+-- the reason phrases by code, as in the original crate (most from RFC 9110, section 15)
 abbrev pub reason_phrases : List (ℕ × List ℕ)
 reason_phrases =
     (100, codes "Continue") ∷ (101, codes "Switching Protocols") ∷ (102, codes "Processing") ∷

@@ -14,8 +14,8 @@ is_number n (Some m) = m == n
 abbrev pub is_length : ℕ → List ℕ → Bool
 is_length n text = is_number n (length_of text)
 
--- THE ONE LENGTH of the elements of Content-Length: none if there are no elements, else the number that all of them
--- give
+-- THE ONE LENGTH of the elements of Content-Length: whether it is n, which is `None` if there are no elements, and
+-- otherwise the number that all of them give
 abbrev pub IsOneLength : List (List ℕ) → Option ℕ → Type 0
 IsOneLength [] n = n ≡ None
 IsOneLength (length ∷ lengths) n = (m : ℕ) × (n ≡ Some m) × IsTrue (list_all (is_length m) (length ∷ lengths))

@@ -46,8 +46,8 @@ version_of text =
 abbrev pub is_too_new : HTTPVersion → Bool
 is_too_new v = nat_lt 1 v.0 || (v.0 == 1 && nat_lt 1 v.1)
 
--- whether the text is a request-line: trimmed, it is method SP path SP version, and optionally further parts after
--- another SP
+-- whether the text is a request line as the original crate accepts it: once white space at its ends is removed, it is
+-- method SP path SP version, optionally followed by another SP and further parts
 pub record RequestLine (text : List ℕ) (method : Method) (path : List ℕ) (version : HTTPVersion) : Type 0 where
   pub core : List ℕ
   pub method_text : List ℕ
@@ -62,8 +62,8 @@ pub record RequestLine (text : List ℕ) (method : Method) (path : List ℕ) (ve
   pub names_method : method ≡ method_of method_text
   pub names_version : version_of version_text ≡ Some version
 
--- whether the text is a field-line: the name without white space or colon, a colon, and the value between optional
--- white space
+-- whether the text is a field line: a name without white space or colon, a colon, and the value with optional white
+-- space around it
 pub record HeaderLine (text field value : List ℕ) : Type 0 where
   pub padded : List ℕ
   pub joins : text ≡ field ++ colon ∷ padded

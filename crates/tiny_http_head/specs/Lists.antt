@@ -12,7 +12,8 @@ abbrev pub is_left_out : Blanks → ℕ → Bool
 is_left_out SpaceAndTab = is_ows
 is_left_out WhiteSpace = is_blank
 
--- the elements of a value: the texts between its commas, stripped; an empty value is one empty element
+-- the elements of a value: the texts between its commas, stripped at both ends of the bytes that satisfy `is_out`; an
+-- empty value is one empty element
 abbrev pub elements_in : (ℕ → Bool) → List ℕ → List (List ℕ)
 elements_in is_out value = map (trimmed is_out) (parts comma value)
 

@@ -49,8 +49,8 @@ pub record PathBehindAuthority (text path : List ℕ) : Type 0 where
 abbrev pub AuthorityAndPath : List ℕ → List ℕ → Type 0
 AuthorityAndPath text path = PathBehindAuthority text path ⊎ (HasNo slash text × (path ≡ codes "/"))
 
--- THE PARTS OF A TARGET. Without a scheme the path is everything before the first question mark; in absolute form the
--- path follows the authority.
+-- THE PARTS OF A TARGET: whether they are this path and this query, or no query (`None`). Without a scheme the path is
+-- everything before the first question mark; in absolute form the path follows the authority.
 abbrev pub TargetParts : List ℕ → List ℕ → Option (List ℕ) → Type 0
 TargetParts target path query =
     (HasNoScheme target × FrontAndQuery target path query)

@@ -18,8 +18,8 @@ pub enum Blanks {
 impl Blanks {
     ghost use Rattle.tiny_http_head.specs.Lists.{is_left_out};
 
-    /// Strips these bytes from both ends of the text. It is inlined, so that a constant variant selects the loops at
-    /// compile time.
+    /// Strips these bytes from both ends of the text. The function is inlined, so that a constant variant selects the
+    /// loops at compile time.
     #[inline(always)]
     pub fn trim(self, text: &[u8]) -> &[u8]
         ensures { result.now ≡ trimmed (is_left_out self) text.now }

@@ -283,7 +283,7 @@ impl HeaderField {
     ghost use Rattle.tiny_http_text.specs.Ascii.{IsFirstNotAscii};
     ghost use Rattle.tiny_http_text.specs.FromAsciiError.{refused_bytes, bad_place};
 
-    /// Makes a name from any ASCII bytes. For other bytes it fails, and the error hands them back.
+    /// Makes a name from any ASCII bytes. For other bytes it fails, and the error holds them.
     pub fn from_bytes(bytes: Vec<u8>) -> Result<HeaderField, FromAsciiError>
         ensures ok { IfOk result (λ f. f ≡ bytes.items) }
         ensures succeeds { IsOk result ↔ IsAscii bytes.items }
@@ -475,10 +475,10 @@ impl Header {
     ghost use Rattle.tiny_http_head.specs.HeaderTexts.{AreHeaderTexts, header_of};
 
     /// Makes a header from a name and a value, unchanged. Its recipient parses that name and value and nothing else,
-    /// even if they contain text from a client. The name is a token (RFC 9110, section 5.6.2): one or more letters,
-    /// digits and ``!#$%&'*+-.^_`|~``. The value consists of visible ASCII bytes, spaces and tabs, without a space or
-    /// tab at its ends; it may be empty (RFC 9110, section 5.5). Fails with `Refused` for any other text, such as one
-    /// with CR, LF or NUL, and only then; with `Memory` if memory is refused.
+    /// even if they contain text from a client. The name must be a token (RFC 9110, section 5.6.2): one or more ASCII
+    /// letters, digits or bytes of ``!#$%&'*+-.^_`|~``. The value must consist of visible ASCII bytes, spaces and tabs,
+    /// without a space or tab at its ends; it may be empty (RFC 9110, section 5.5). Fails with `Refused` for any other
+    /// name or value, such as one with CR, LF or NUL, and only then; with `Memory` if memory is refused.
     #[tactic(auto, using(crate::proofs::HeaderTextsLemmas::token_ascii))]
     pub fn new(alloc: Global, name: &str, value: &str) -> Result<Header, ParseError>
         ensures ok { IfOk result (λ h. (h ≡ header_of name.now value.now) × AreHeaderTexts name.now value.now) }
@@ -509,8 +509,9 @@ impl Header {
     }
 
     /// Parses a field line without its CR LF: the name is the text before the first colon, and the value is the text
-    /// after it, trimmed (RFC 9112, section 5). Fails with `Refused` if there is no colon, if the name contains white
-    /// space (bytes 9 to 13 and 32), or if a byte isn't ASCII, and only then; with `Memory` if memory is refused.
+    /// after it, without white space (bytes 9 to 13 and 32) at its ends (RFC 9112, section 5). Fails with `Refused` if
+    /// there is no colon, if the name contains white space, or if a byte isn't ASCII, and only then; with `Memory` if
+    /// memory is refused.
     pub fn from_str(alloc: Global, text: &str) -> Result<Header, ParseError>
         ensures ok { IfOk result (λ h. IsHeader text.now h) }
         ensures refused { IsErrOf result ParseError.Refused ↔ ((h : Header) → IsHeader text.now h → ⊥) }
@@ -572,8 +573,8 @@ fn is_field_value(text: &[u8]) -> bool
     are_ascii(text) && is_header_value(text) && is_trimmed(text)
 }
 
-/// Returns the method that an ASCII text names: one of the nine names in this exact case, or any other text. Fails if
-/// memory for a copy is refused.
+/// Returns the method that an ASCII text names: a method with a variant of its own if the text is its name in this
+/// exact case, and otherwise `NonStandard`. Fails if memory for a copy is refused.
 pub fn method_of(alloc: Global, text: &[u8]) -> Result<Method, AllocError>
     requires { AreAscii text.now }
     ensures { IfOk result (λ m. m ≡ method_of text.now) }
@@ -608,9 +609,9 @@ pub fn method_of(alloc: Global, text: &[u8]) -> Result<Method, AllocError>
     Ok(Method::NonStandard(owned(alloc, text)?))
 }
 
-/// Parses a field line: the name is the text before the first colon, and the value is the text after it, trimmed (RFC
-/// 9112, section 5). Returns `None` if there is no colon, or if the name contains white space. Fails if the text is a
-/// field line and memory is refused.
+/// Parses a field line: the name is the text before the first colon, and the value is the text after it, without white
+/// space (bytes 9 to 13 and 32) at its ends (RFC 9112, section 5). Returns `None` if there is no colon, or if the name
+/// contains white space. Fails if the text is a field line and memory is refused.
 pub fn parse_header_line(alloc: Global, text: &[u8]) -> Result<Option<Header>, AllocError>
     requires { AreAscii text.now }
     ensures value { IfOk result (λ found. found ≡ header_line text.now) }

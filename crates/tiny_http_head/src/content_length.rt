@@ -38,8 +38,9 @@ pub fn number_in(text: &[u8]) -> Option<usize>
     Some(number)
 }
 
-// Returns the one length that the elements up to this one give, if those before it gave `found`. Fails if the element
-// isn't a number below 2^64, or differs from the length that was found before.
+// Returns the one length that this element and those before it give; `found` is the length that those before it gave,
+// or `None` if there are none. Fails if the element isn't a number below 2^64, or differs from the length that was
+// found before.
 #[inline(always)]
 fn length_after(found: Option<usize>, element: &[u8]) -> Result<Option<usize>, InvalidLength>
     ensures { result ≡ lengths_after found (element.now ∷ []) }
@@ -55,8 +56,8 @@ fn length_after(found: Option<usize>, element: &[u8]) -> Result<Option<usize>, I
     Ok(Some(length))
 }
 
-// Returns the one length that the elements up to those of this value give, if those before it gave `found`. Fails as
-// `length_after` does.
+// Returns the one length that the elements of this value and those before it give; `found` is the length that those
+// before it gave, or `None` if there are none. Fails as `length_after` does.
 #[inline(always)]
 fn lengths_in(
     blanks: Blanks,

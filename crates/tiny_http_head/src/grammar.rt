@@ -33,8 +33,8 @@ fn version_of(text: &[u8]) -> Option<HTTPVersion>
     None
 }
 
-// Splits a request line, trimmed, at each single space, and returns its first three parts. The third ends at the next
-// space or at the end of the text. Returns `None` if there are fewer parts.
+// Trims a request line, splits it at each single space, and returns its first three parts. The third ends at the next
+// space or at the end of the text. Returns `None` if there are fewer than three parts.
 fn split_request_line(text: &[u8]) -> Option<(&[u8], &[u8], &[u8])>
     ensures some { IfSome result (λ r. HasParts text.now r.0.now r.1.now r.2.now) }
     ensures none { IfNone result (request_line text.now ≡ None) }
@@ -49,10 +49,10 @@ fn split_request_line(text: &[u8]) -> Option<(&[u8], &[u8], &[u8])>
     Some((method, path, first_part(tail, b' ')))
 }
 
-/// Parses a request line (RFC 9112, section 3). The text is trimmed and split at each single space into the method, the
-/// request target, which may be empty, and the version; further parts are ignored. Returns `None` if there are fewer
-/// parts, or if the version isn't `HTTP/0.9`, `HTTP/1.0`, `HTTP/1.1`, `HTTP/2.0` or `HTTP/3.0`. Fails if the text is a
-/// request line and memory is refused.
+/// Parses a request line (RFC 9112, section 3). The text is stripped of white space (bytes 9 to 13 and 32) at its ends
+/// and split at each single space into the method, the request target, which may be empty, and the version; further
+/// parts are ignored. Returns `None` if there are fewer than three parts, or if the version isn't `HTTP/0.9`,
+/// `HTTP/1.0`, `HTTP/1.1`, `HTTP/2.0` or `HTTP/3.0`. Fails if the text is a request line and memory is refused.
 pub fn parse_request_line(
     alloc: Global,
     text: &[u8],
@@ -72,8 +72,8 @@ pub fn parse_request_line(
     Ok(Some((method, path, version)))
 }
 
-/// Parses a `Content-Length` value: an optional `+`, then one or more decimal digits whose number is at most
-/// 18446744073709551615 (RFC 9110, section 8.6; the `+` as in the original). Returns `None` for any other value.
+/// Parses a `Content-Length` value: an optional `+`, then one or more decimal digits whose value is at most
+/// 18446744073709551615 (RFC 9110, section 8.6; the `+` as in the original crate). Returns `None` for any other value.
 pub fn parse_content_length(value: &str) -> Option<usize>
     ensures { result ≡ length_in value.now }
 {

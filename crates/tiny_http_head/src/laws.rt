@@ -64,7 +64,8 @@ pub fn http_version_order()
         → version_order v numbers ≡ ⟦<HTTPVersion as Ord>⟧.cmp v (record { 0 = numbers.0; 1 = numbers.1 }) }
 {}
 
-/// Parsing a method's name returns that method, unless the method is one of the nine names stored as `NonStandard`.
+/// Parsing a method's name returns that method, unless the method is a `NonStandard` with one of the nine names that
+/// have a variant.
 pub fn method_from_its_name()
     ensures { (m : AnyMethod) → HasItsOwnName m → method_of (method_text m) ≡ m }
 {}

@@ -32,7 +32,7 @@ prepend bs feed = record { bytes = bs ++ feed.bytes; stop = feed.stop }
 abbrev pub prepended : List ℕ → Option Feed → Option Feed
 prepended bs feed = option_map (prepend bs) feed
 
--- whether the feed `new` is what is left of the feed `old` once some bytes at its front were taken, or neither is
+-- whether the feed `new` is what is left of the feed `old` once some bytes at its front were taken, or neither feed is
 -- stated
 abbrev pub TakesFront : Option Feed → Option Feed → Type 0
 TakesFront old new = (gone : List ℕ) × (old ≡ prepended gone new)
@@ -54,7 +54,8 @@ abbrev pub stop_of : Option ErrorKind → Stop
 stop_of None = End
 stop_of (Some kind) = Fault kind
 
--- the kind of the error that reports a stop before the last wanted byte: the fault's, or `UnexpectedEof` for an end
+-- the kind of the error that reports a stop before all wanted bytes have come: the fault's, or `UnexpectedEof` for an
+-- end
 abbrev pub fault_of : Stop → ErrorKind
 fault_of End = UnexpectedEof
 fault_of (Fault kind) = kind
@@ -90,7 +91,7 @@ ReadsFrom (Some f) (Some g) (Ok n) buf =
     (f.bytes ≡ take n buf ++ g.bytes) × (g.stop ≡ f.stop) × (n ≡ 0 → 0 < length buf → (f.bytes ≡ []) × (f.stop ≡ End))
 ReadsFrom (Some f) (Some g) (Err e) buf = (f.bytes ≡ []) × (f.stop ≡ Fault (error_kind e)) × (g ≡ f)
 
--- whether the first bytes are a prefix of the second
+-- whether the bytes `front` are a prefix of the bytes `whole`
 abbrev pub IsFront : List ℕ → List ℕ → Type 0
 IsFront front whole = (rest : List ℕ) × (whole ≡ front ++ rest)
 
@@ -145,8 +146,8 @@ pub record Took (old new : Sink) (text : List ℕ) : Type 0 where
   pub last_kind : new.last_kind ≡ old.last_kind
   pub stays : new.has_ended ≡ old.has_ended
 
--- whether a writer that had not ended failed with this kind; if it states its bytes, they are a prefix of its earlier
--- bytes and the text, and contain all that it has sent on
+-- whether a writer that had not ended failed with an error of this kind; if it states its bytes, they are a prefix of
+-- its earlier bytes followed by the text, and begin with all that it has sent on
 pub record Failed (old new : Sink) (text : List ℕ) (kind : ErrorKind) : Type 0 where
   pub bytes : IsKnownFront new.taken (append_known old.taken text)
   pub sent : IsFront old.sent new.sent
@@ -155,14 +156,15 @@ pub record Failed (old new : Sink) (text : List ℕ) (kind : ErrorKind) : Type 0
   pub last_kind : StatesKind new.last_kind kind
   pub was_open : old.has_ended ≡ false
 
--- whether the writer took all of the text, or nothing if it has ended, if the call returned `Ok`; if it returned an
--- error, whether the writer failed with the error's kind
+-- The effect of writing all of the text on what the writer states. `Ok`: the writer took all of the text, or nothing if
+-- it had ended. An error: the writer failed with the error's kind.
 abbrev pub Puts : {T : Type 0} → Sink → Sink → Result T Error → List ℕ → Type 0
 Puts old new (Ok x) text = Took old new text
 Puts old new (Err e) text = Failed old new text (error_kind e)
 
--- whether the writer took the first n bytes of the text, or nothing if it has ended, if the call returned `Ok(n)`: at
--- least one byte unless the text is empty; if it returned an error, whether the writer failed with the error's kind
+-- The effect of writing some of the text on what the writer states. `Ok(n)`: the writer took the first n bytes of the
+-- text, or nothing if it had ended; n is at least 1 unless the text is empty. An error: the writer failed with the
+-- error's kind.
 abbrev pub PutsFront : Sink → Sink → Result ℕ Error → List ℕ → Type 0
 PutsFront old new (Ok n) text = (n ≤ length text) × (0 < length text → 0 < n) × Took old new (take n text)
 PutsFront old new (Err e) text = Failed old new text (error_kind e)
@@ -173,7 +175,7 @@ pub record SameFaults (old new : Sink) : Type 0 where
   pub last_kind : new.last_kind ≡ old.last_kind
   pub stays : new.has_ended ≡ old.has_ended
 
--- whether a writer that had not ended failed with this kind
+-- whether a writer that had not ended failed with an error of this kind
 pub record Faulted (old new : Sink) (kind : ErrorKind) : Type 0 where
   pub failures : new.failures ≡ next_count old.failures
   pub last_kind : StatesKind new.last_kind kind
@@ -198,8 +200,8 @@ CopiedKnown None new from to n = ⊤
 CopiedKnown (Some f) None from to n = ⊥
 CopiedKnown (Some f) (Some g) from to n = Copied f g from to n
 
--- whether a copy broke off with this kind: the reader stopped before it returned another byte, or the writer failed
--- within the next `left` bytes
+-- whether a copy broke off with an error of this kind: the reader stopped before it returned another byte, or the
+-- writer failed within the next `left` bytes
 abbrev pub CopyBreaks : Option Feed → Sink → Sink → ℕ → ErrorKind → Type 0
 CopyBreaks None from to left kind = ⊤
 CopyBreaks (Some f) from to left kind =

@@ -14,8 +14,8 @@ equal_inner r = r.inner
 abbrev pub equal_left : {R : Type 0} → EqualReader R → ℕ
 equal_left r = r.left
 
--- the bytes still to come from an `EqualReader`, and how they stop: the next bytes of the inner reader, at most as many
--- as may still be read
+-- the bytes still to come from an `EqualReader`, and how the input stops after them: the next bytes of the inner
+-- reader, at most as many as may still be read
 abbrev pub equal_feed : {R : Type 0} → (R → Option Feed) → EqualReader R → Option Feed
 equal_feed feed r = option_map (feed_front r.left) (feed r.inner)
 

@@ -9,7 +9,7 @@ abbrev pub stop_where : Bool → Stop → Stop
 stop_where true stop = stop
 stop_where false stop = End
 
--- the first `size` bytes of the feed, or all of them if the feed has fewer
+-- the first `size` bytes of the feed, followed by an end; if the feed has fewer, the whole feed with its own stop
 unfoldable pub feed_front : ℕ → Feed → Feed
 feed_front size feed =
     record { bytes = take size feed.bytes; stop = stop_where (nat_lt (length feed.bytes) size) feed.stop }

@@ -33,7 +33,7 @@ output_of o = holding o.sink o.held o.ended
 abbrev pub outlet_held : {W : Type 0} → OutletState W → List ℕ
 outlet_held o = o.held
 
--- whether the outlet takes nothing more
+-- whether the outlet has ended, and takes no more bytes
 abbrev pub outlet_ended : {W : Type 0} → OutletState W → Bool
 outlet_ended o = o.ended
 
@@ -41,11 +41,12 @@ outlet_ended o = o.ended
 abbrev pub outlet_writer : {W : Type 0} → OutletState W → W
 outlet_writer o = o.writer
 
--- whether the outlet's writer holds no bytes back, if the outlet still takes bytes
+-- whether the outlet's writer holds no bytes back, if neither the outlet nor the writer has ended
 abbrev pub SentOn : {W : Type 0} → OutletState W → Type 0
 SentOn o = (output_of o).has_ended ≡ false → HoldsNothing o.sink
 
--- whether ending an outlet sent the bytes that it held back, or the writer failed meanwhile
+-- The effect of ending an outlet on its output. `Ok`: neither the bytes taken nor the failures changed, and more bytes
+-- may have been sent on. An error: the writer failed.
 abbrev pub EndsOutlet : {T : Type 0} → Sink → Sink → Result T Error → Type 0
 EndsOutlet old new (Ok x) =
     (new.taken ≡ old.taken)

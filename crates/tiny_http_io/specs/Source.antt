@@ -45,7 +45,7 @@ abbrev pub HoldsLine : {R : Type 0} → SourceState R → Type 0
 HoldsLine s = has_crlf (drop s.skip s.held) ≡ true
 
 -- whether the input has ended, or was made to end, and nothing of it is left: each further read of a line fails with
--- `End`, unless its limit is 0
+-- `End`, or with `TooLong` if its limit is 0
 abbrev pub IsAtEnd : {R : Type 0} → SourceState R → Type 0
 IsAtEnd s = (s.is_over ≡ true) × (s.stop ≡ Some End)
 
@@ -81,7 +81,7 @@ abbrev pub seen_within : Option ℕ → List ℕ → List ℕ
 seen_within None bytes = bytes
 seen_within (Some left) bytes = take left bytes
 
--- whether the bytes end before the limit, if there is one
+-- whether the bytes are fewer than the limit, if there is one
 abbrev pub IsShort : Option ℕ → List ℕ → Type 0
 IsShort None bytes = ⊤
 IsShort (Some left) bytes = length bytes < left
@@ -108,7 +108,8 @@ ReadsWithin left (Some old) new (Err TooLong) = IsTooLong left old.bytes × (new
 ReadsWithin left (Some old) new (Err Memory) = new ≡ Some (stopped End)
 ReadsWithin left (Some old) new (Err fault) = ReadsLine (Some old) new (Err fault) × IsShort left old.bytes
 
--- The effect on the feed of consuming a line, whatever its bytes are: the line and its CR LF were at the front.
+-- The effect on the feed of consuming a line, whatever its bytes are: the line and its CR LF were at the front of the
+-- feed.
 abbrev pub TakesLine : Option Feed → Option Feed → List ℕ → Type 0
 TakesLine None new text = ⊤
 TakesLine (Some old) new text =
@@ -197,7 +198,7 @@ pub record EndsHere {R : Type 0} (old new : SourceState R) : Type 0 where
 -- The effect of reading a line, within the limit if there is one. After any fault except a line that isn't ASCII the
 -- source is over; after refused memory or a line that is too long it is at its end. If the buffer holds as many bytes
 -- as the limit after those to be skipped, the reader isn't called (`full`). A source that is over stays so, and each
--- further call fails with the fault of its stop, unless the limit is 0.
+-- further call fails with the fault of its stop, or with `TooLong` if the limit is 0.
 pub record ReadsOneLine {R : Type 0} (left : Option ℕ) (old new : SourceState R)
     (r : Result (List ℕ) LineFault) : Type 0 where
   pub line : ReadsWithin left old.feed new.feed r

@@ -5,11 +5,11 @@ use Rattle.tiny_http_io.specs.Device.{Feed, prepended}
 use Rattle.tiny_http_io.specs.declared.device.Stop.{Stop}
 use Rattle.tiny_http_io.specs.declared.device.Stop.TheVariants.{End}
 
--- a feed with no byte left
+-- a feed with no byte left, which stops in this way
 abbrev pub stopped : Stop → Feed
 stopped stop = record { bytes = []; stop = stop }
 
--- the feed after the buffered bytes: the reader's, or an empty one once the input has stopped
+-- the feed after the buffered bytes: the reader's, or, once the input has stopped, an empty one with that stop
 abbrev pub behind_held : Option Stop → Option Feed → Option Feed
 behind_held None feed = feed
 behind_held (Some stop) feed = option_map (λ _. stopped stop) feed

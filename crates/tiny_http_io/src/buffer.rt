@@ -9,7 +9,7 @@ use crate::device::ReadDevice;
 use std::io;
 use std::marker::Model;
 
-/// The capacity, in bytes, of the buffer of a source or an outlet (as in the original).
+/// The capacity, in bytes, of the buffer of a source or an outlet, as in the original crate.
 pub const CAPACITY: usize = 1024;
 
 /// A queue of at most `CAPACITY` bytes: bytes enter at the back and leave at the front.
@@ -90,7 +90,7 @@ impl Buffer {
         Some(first)
     }
 
-    /// Moves as many bytes as fit to the front of `to`, and returns how many.
+    /// Moves the first bytes, as many as `to` has room for, to the front of `to`, and returns how many.
     pub fn give(&mut self, to: &mut [u8]) -> usize
         ensures count { result ≡ min (length self.old) (length to.old) }
         ensures bytes { self.old ≡ take result to.new ++ self.new }

@@ -15,7 +15,7 @@ pub struct CustomStream<R, W> {
 }
 
 impl<R, W> CustomStream<R, W> {
-    /// Joins a reader and a writer. Nothing has been read or written yet.
+    /// Joins a reader and a writer. Nothing is read or written.
     pub fn new(reader: R, writer: W) -> CustomStream<R, W>
         ensures reader { custom_reader result ≡ reader }
         ensures writer { custom_writer result ≡ writer }

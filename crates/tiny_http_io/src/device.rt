@@ -26,7 +26,8 @@ pub trait ReadDevice {
     ghost feed: { Self → Option Feed } = { λ _. None };
 
     /// The number of ends and faults that the reader has reported, if it counts them. A wrapper states the count of its
-    /// inner reader. With this count a contract can say that no second end or fault is asked for after the first.
+    /// inner reader. With this count a contract can say that the reader isn't called again after its first end or
+    /// fault.
     ghost stop_count: { Self → ℕ } = { λ _. 0 };
 
     /// Reads some bytes into the front of `buf` and returns how many: 0 at the end, or if `buf` is empty. After the
@@ -225,7 +226,8 @@ impl<S: Write> WriteDevice for Metered<S> {
     /// `WriteZero`.
     fn write_out(&mut self, buf: &[u8]) -> Result<usize, io::Error>
         ensures puts { PutsFront (metered_sink self.old) (metered_sink self.new) result buf.now }
-        // If the inner stream states its bytes, it took these bytes, or none if the write failed.
+        // If the inner stream states its bytes, it took the first n of these bytes if the write returned n, or none if
+        // the write failed.
         ensures stream { WriteAppends (S.contents (metered_inner self.old)) (S.contents (metered_inner self.new))
             result buf.now }
     {
@@ -276,8 +278,8 @@ pub struct Budget {
 impl Budget {
     ghost use Rattle.tiny_http_io.specs.Budget.{budget_bytes, budget_room, budget_kind, budget_sink};
 
-    /// Makes a writer that takes `room` bytes and then fails with this kind. A write fails with `OutOfMemory` if memory
-    /// for the bytes is refused.
+    /// Makes a writer that takes `room` bytes and then fails with an error of this kind. A write fails with
+    /// `OutOfMemory` if memory for the bytes is refused.
     pub fn new(alloc: Global, room: usize, kind: ErrorKind) -> Budget
         ensures sink { budget_sink result
             ≡ record { taken = Some []; sent = []; failures = 0; last_kind = None; has_ended = false } }
@@ -413,7 +415,8 @@ pub fn read_front<R: ReadDevice>(
     reader.read_in(front)
 }
 
-/// Writes all the bytes, in as many calls as it takes. Stops at the first call that fails, and returns its error.
+/// Writes all the bytes, in as many calls to the writer as it takes. Stops at the first call that fails, and returns
+/// its error.
 pub fn put<W: WriteDevice>(writer: &mut W, bytes: &[u8]) -> Result<(), io::Error>
     ensures { Puts (W.sink writer.old) (W.sink writer.new) result bytes.now }
 {
@@ -481,9 +484,9 @@ impl<R: ReadDevice> ReadDevice for ByPieces<R> {
     }
 }
 
-/// A reader or writer of which one chosen call, or none, fails. That call doesn't reach the inner stream; every other
-/// call does, except a read into an empty buffer. It is a `ReadDevice` over a `ReadDevice`, and a `Write` over a
-/// `Write`. It is for testing code that reads and writes.
+/// A reader or writer in which a fault is injected into one chosen call, or into none. That call doesn't reach the
+/// inner stream; every other call does, except a read into an empty buffer, and may fail as the inner stream does. It
+/// is a `ReadDevice` over a `ReadDevice`, and a `Write` over a `Write`. It is for testing code that reads and writes.
 #[derive(Drop)]
 pub struct FailsAt<S> {
     inner: S,
@@ -512,7 +515,7 @@ impl<S> FailsAt<S> {
         }
     }
 
-    /// Returns whether the failing call has been made.
+    /// Returns whether the chosen call has been made, and has failed.
     pub fn has_failed(&self) -> bool
         ensures { result ≡ has_failed self.now }
     {
@@ -526,7 +529,7 @@ impl<S> FailsAt<S> {
         self.inner
     }
 
-    // Counts a call. Fails if it is the failing one.
+    // Counts a call. Fails if it is the chosen one.
     fn count(&mut self) -> Result<(), io::Error>
         ensures { Counts self.old self.new result }
     {

@@ -15,8 +15,8 @@ const PIECE: usize = 512;
 /// A reader of the next n bytes of another reader. If the inner reader stops within these bytes, this one stops in the
 /// same way.
 ///
-/// When dropped or finished, it reads and discards the rest of its bytes, through a buffer of a fixed size, up to an
-/// end or a fault.
+/// When dropped or finished, it reads and discards the rest of its bytes, through a buffer of 512 bytes, but stops at
+/// an end or a fault.
 pub struct EqualReader<R: ReadDevice + Drop> {
     inner: R,
     left: usize,
@@ -53,7 +53,8 @@ impl<R: ReadDevice + Drop> EqualReader<R> {
     }
 
     /// Reads and discards the rest of this reader's bytes, and returns the inner reader. The inner reader's next byte
-    /// is the first one after them, unless it stopped before. A fault that is met here isn't reported.
+    /// is the first one after them, unless the inner reader stopped before that byte. An end or a fault that is met
+    /// here isn't reported.
     pub fn finish(self) -> R
         ensures feed { R.feed result ≡ option_map (feed_behind (equal_left self)) (R.feed (equal_inner self)) }
         // The inner reader reports at most one end or fault in this call.

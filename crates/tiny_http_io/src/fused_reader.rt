@@ -7,8 +7,8 @@ use crate::device::{ReadDevice, Stop};
 use std::io;
 use std::io::Read;
 
-/// A reader that doesn't call its inner reader again after the end, and reports the end from then on. It also reports
-/// the inner reader's faults, which don't count as the end.
+/// A reader that doesn't call its inner reader again after the inner reader's end, and reports the end from then on. It
+/// also reports the inner reader's faults, which don't count as the end.
 #[derive(Drop)]
 pub struct FusedReader<R> {
     inner: R,

@@ -64,7 +64,7 @@ impl<R: ReadDevice> Input<R> {
         self.stop
     }
 
-    /// Returns whether another byte follows.
+    /// Returns whether another byte follows those to be skipped.
     pub fn has_byte(&mut self) -> bool
         ensures some { IsTrue result
             → HasByte (input_feed R.feed self.old) × (input_stop self.new ≡ input_stop self.old) }
@@ -320,7 +320,7 @@ impl<R: ReadDevice> Input<R> {
         ensures once { IsSome (input_stop self.old)
             → IsSome (input_stop self.new) × (input_reader self.new ≡ input_reader self.old) }
         // Whatever the reader states, an input that is over stays so, and each further call fails with the fault of its
-        // stop, unless the limit is 0.
+        // stop, or with `TooLong` if the limit is 0.
         ensures limited { result ≡ Err LineFault.TooLong → IsSome left }
         ensures over { IfErr result (λ fault. fault ≢ LineFault.NotAscii → IsInputOver self.new) }
         ensures ended { IfErr result (λ fault. (fault ≡ LineFault.Memory) ⊎ (fault ≡ LineFault.TooLong)
@@ -394,7 +394,8 @@ impl<R: ReadDevice> Input<R> {
         }
     }
 
-    /// Skips n more bytes before the next line or read. If fewer are left the input ends.
+    /// Skips n more bytes before the next line or read. If fewer are left, the input ends, even if the reader stops
+    /// with a fault.
     pub fn skip(&mut self, n: usize)
         ensures feed { input_feed R.feed self.new ≡ option_map (skipped n) (input_feed R.feed self.old) }
         ensures alone { input_skip self.old + n < 2 ^ 64
@@ -467,8 +468,8 @@ impl<R: ReadDevice> Input<R> {
     }
 
     /// Reads some bytes and returns how many: 0 at the end, or if `buf` is empty. After the last byte each read into a
-    /// nonempty `buf` reports how the input stopped. If no byte is buffered or to be skipped, a read into 1024 bytes or
-    /// more goes straight to the reader.
+    /// nonempty `buf` reports how the input stopped. If no byte is buffered or to be skipped and the input hasn't
+    /// stopped, a read into 1024 bytes or more goes straight to the reader.
     pub fn read(&mut self, buf: &mut [u8]) -> Result<usize, io::Error>
         ensures bound { IfOk result (λ n. n ≤ length buf.new) }
         ensures bytes { IfOk result

@@ -24,7 +24,7 @@ pub(crate) fn line_end(bytes: &[u8]) -> Option<usize>
     None
 }
 
-/// Returns whether a line of n bytes and its CR LF are within the limit `left`, if there is one.
+/// Returns whether a line of n bytes and its CR LF are within the limit `left`. Without a limit they always are.
 pub(crate) fn is_within(left: Option<usize>, n: usize) -> bool
     requires { n + 2 < 2 ^ 64 }
     ensures within { IsTrue result → IsWithin left n }
@@ -59,7 +59,7 @@ pub(crate) fn one_less(room: Option<usize>) -> Option<usize>
 }
 
 // Appends a byte that doesn't end the line. A CR is held back until the byte after it is known; `after_return` says
-// whether one is. Fails with `Memory` if memory is refused.
+// whether a CR is held back. Fails with `Memory` if memory is refused.
 pub(crate) fn go_on(text: &mut Vec<u8>, after_return: &mut bool, b: u8) -> Result<(), LineFault>
     requires not_end { after_return.old ≡ true → b ≢ 10 }
     requires passed { BeginsNoLineEnd text.old.items (held_return after_return.old) }

@@ -8,8 +8,8 @@ use std::io;
 use std::io::Write;
 use std::marker::Model;
 
-/// A buffered writer. It ends by `end` or `abandon`, or at the first fault of the inner writer; from then on it takes
-/// no bytes and holds none.
+/// A buffered writer. `end`, `abandon` or the inner writer's first fault ends it; from then on it takes no bytes and
+/// holds none.
 #[derive(Drop)]
 pub struct Outlet<W: WriteDevice> {
     inner: W,
@@ -138,7 +138,7 @@ impl<W: WriteDevice> Outlet<W> {
     }
 
     /// Takes all bytes. They are buffered, and the buffer is sent when it is full and more bytes follow; `CAPACITY`
-    /// bytes or more bypass an empty buffer. A fault ends the outlet. Once the outlet has ended, it takes none and
+    /// bytes or more bypass an empty buffer. A fault ends the outlet. Once the outlet has ended, it takes no bytes and
     /// returns `Ok`.
     pub fn write(&mut self, bytes: &[u8]) -> Result<(), io::Error>
         ensures puts { Puts (output_of self.old) (output_of self.new) result bytes.now }
@@ -157,8 +157,8 @@ impl<W: WriteDevice> Outlet<W> {
         Ok(())
     }
 
-    /// Sends all buffered bytes and flushes the inner writer. Once the outlet has ended, it does nothing and returns
-    /// `Ok`.
+    /// Sends all buffered bytes and flushes the inner writer. A fault ends the outlet. Once the outlet has ended, this
+    /// does nothing and returns `Ok`.
     pub fn flush(&mut self) -> Result<(), io::Error>
         ensures puts { Puts (output_of self.old) (output_of self.new) result [] }
         ensures held { outlet_held self.new ≡ [] }

@@ -93,10 +93,10 @@ impl InputState {
 
 /// The buffered input of a connection. It also stores the `InputState` that the crates that build on this one set.
 ///
-/// The buffer holds at most 1024 bytes. The reader is called only if the buffer is empty and a byte is wanted, never
-/// again after its first end or fault: nothing is read ahead beyond one call. By the clauses `lazy` in
-/// `specs/Source.antt`, a call that returned what was asked for met no end or fault; by the clauses `calls`, the reader
-/// reports at most one end or fault in all calls together.
+/// The buffer holds at most 1024 bytes. The reader is called only if a byte is wanted and none is buffered after those
+/// to be skipped, and never again after its first end or fault: nothing is read ahead beyond what one call returns. The
+/// clauses `lazy` in `specs/Source.antt` state that a call that returned what was asked for met no end or fault. The
+/// clauses `calls` state that the reader reports at most one end or fault in all calls together.
 #[derive(Drop)]
 pub struct Source<R: ReadDevice> {
     input: Input<R>,
@@ -163,7 +163,8 @@ impl<R: ReadDevice> Source<R> {
         self.input.stop()
     }
 
-    /// Returns whether another byte follows. Unless one is buffered, blocks until a byte, the end or a fault arrives.
+    /// Returns whether another byte follows those to be skipped. If none is buffered and the input hasn't stopped,
+    /// blocks until such a byte, the end or a fault arrives.
     pub fn has_byte(&mut self) -> bool
         ensures looks { LooksForByte self.old self.new result }
         ensures calls { CallsReader R.stop_count self.old self.new }
@@ -178,8 +179,8 @@ impl<R: ReadDevice> Source<R> {
         self.input.into_inner()
     }
 
-    /// Skips n more bytes before the next line or read. If fewer are left, the input ends. The reader isn't called
-    /// unless the bytes to skip add up to 2^64 or more.
+    /// Skips n more bytes before the next line or read. If fewer are left, the input ends, even if the reader stops
+    /// with a fault. The reader isn't called unless the bytes to skip add up to 2^64 or more.
     pub fn skip(&mut self, n: usize)
         ensures skips { SkipsBytes n self.old self.new }
         ensures calls { CallsReader R.stop_count self.old self.new }
@@ -219,7 +220,7 @@ impl<R: ReadDevice> Source<R> {
     /// crates that build on this one.
     ///
     /// A line that is whole in the buffer stays there, to be parsed in place without an allocation. Any other line is
-    /// consumed. The faults are those of `read_line_within`, except `NotAscii`.
+    /// read and consumed, with its CR LF. The faults are those of `read_line_within`, except `NotAscii`.
     pub fn find_line(&mut self, alloc: Global, left: Option<usize>) -> Result<FirstLine, LineFault>
         ensures finds { FindsOneLine left self.old self.new result }
         ensures calls { CallsReader R.stop_count self.old self.new }
@@ -255,8 +256,8 @@ impl<R: ReadDevice> Source<R> {
     }
 
     /// Reads some bytes and returns how many: 0 at the end, or if `buf` is empty. After the last byte each read into a
-    /// nonempty `buf` reports how the input stopped. If no byte is buffered or to be skipped, a read into 1024 bytes or
-    /// more goes straight to the reader.
+    /// nonempty `buf` reports how the input stopped. If no byte is buffered or to be skipped and the input hasn't
+    /// stopped, a read into 1024 bytes or more goes straight to the reader.
     pub fn read(&mut self, buf: &mut [u8]) -> Result<usize, io::Error>
         ensures reads { ReadsSource self.old self.new result buf.new }
         ensures stop_count { Tells (R.stop_count self.old.reader) (R.stop_count self.new.reader) result }

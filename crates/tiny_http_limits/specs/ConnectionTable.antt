@@ -54,7 +54,8 @@ module _ {T : Type 0} where
         ++ record { number = table.next; address = address; item = item } ∷ [];
   }
 
-  -- A CONNECTION IS ADDED under the next number; or it isn't allowed, or memory was refused, and nothing has changed.
+  -- THE EFFECT OF ADDING A CONNECTION: it is added under the next number; or a limit is reached, no number is left, or
+  -- memory was refused, and nothing has changed.
   abbrev pub Enters : Connected T → Option IpAddr → T → Result ℕ Refusal → Connected T → Type 0
   Enters old address item (Ok number) new = (refusal_of old address ≡ None)
       × (number ≡ old.next)

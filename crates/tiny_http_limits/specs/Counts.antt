@@ -71,7 +71,8 @@ abbrev pub with_any_closing : Option Closing → Counts → Counts
 with_any_closing None c = c
 with_any_closing (Some closing) c = with_closing closing c
 
--- A CONNECTION ENDED: the counters after its requests, its refusal and the limit that closed it are counted.
+-- A CONNECTION ENDED: the counters once its requests, its refused head, if any, and the limit that closed it, if any,
+-- are counted.
 abbrev pub with_end : Summary → Counts → Counts
 with_end s c =
     with_any_closing s.closing (with_last_refusal s.refusal (record c { requests = add_count c.requests s.requests }))

@@ -32,11 +32,11 @@ pub struct Summary {
 /// The number of refused heads, by the status code of the response.
 #[derive(Clone, Copy, Debug, PartialEq, Eq)]
 pub struct Refusals {
-    /// 400: a malformed head.
+    /// 400: a malformed head, or a head whose host or body framing is invalid.
     pub bad_request: u64,
-    /// 408: a head that took too long.
+    /// 408: a head, or a body that is read with its head, that took too long.
     pub request_timeout: u64,
-    /// 414: a request target that is too long.
+    /// 414: a request line that is too long.
     pub uri_too_long: u64,
     /// 417: an unknown expectation.
     pub expectation_failed: u64,
@@ -59,7 +59,7 @@ pub struct Counts {
     pub requests: u64,
     /// Heads that were refused, each the last of its connection.
     pub refusals: Refusals,
-    /// Accept faults that the server survived.
+    /// Failed attempts to accept a connection, after which the server continued.
     pub accept_faults: u64,
     /// Connections that were closed at once because the limit of their address was reached.
     pub turned_away: u64,
@@ -132,7 +132,7 @@ impl Counts {
         self.connections = one_more(self.connections);
     }
 
-    /// Counts an accept fault.
+    /// Counts a failed attempt to accept a connection.
     pub fn count_accept_fault(&mut self)
         ensures { self.new ≡ record self.old { accept_faults = one_more self.old.accept_faults } }
     {
@@ -153,7 +153,8 @@ impl Counts {
         self.requests = self.requests.saturating_add(requests);
     }
 
-    /// Counts the end of a connection: its requests, and the refused head and the limit that ended it, if any.
+    /// Counts the end of a connection: its requests, the refused head that ended its requests, if there was one, and
+    /// the limit that closed it, if one did.
     pub fn count_end(&mut self, summary: Summary)
         ensures { self.new ≡ with_end summary self.old }
     {

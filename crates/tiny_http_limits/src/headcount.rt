@@ -3,7 +3,7 @@ ghost use Rattle.tiny_http_limits.specs.Headcount.{CountsIn, CountsOut};
 
 use std::marker::Model;
 
-/// A count of those that have entered and not left, at most 2^64 - 1. A contract sees a `Headcount` as that number.
+/// A count of what has entered and not left, at most 2^64 - 1. A contract sees a `Headcount` as that number.
 #[derive(Debug, Drop)]
 pub struct Headcount {
     present: usize,

@@ -10,7 +10,7 @@ use std::time::Duration;
 #[derive(Clone, Copy, Debug, PartialEq, Eq)]
 pub struct Limits {
     /// Maximum number of open connections: 1000 by default. At the limit the server accepts no connection until one
-    /// closes, and new clients wait in the system's queue. If the limit is 0, no connection is accepted.
+    /// closes, and new clients wait in the system's accept queue. If the limit is 0, no connection is accepted.
     pub connections: usize,
     /// Maximum number of open connections from one IP address: 250 by default. A further connection is closed at once.
     /// Connections over a Unix socket have no address and aren't counted. Behind a proxy all clients have the proxy's
@@ -19,12 +19,12 @@ pub struct Limits {
     /// Maximum time for a head once its first bytes have come: 30 seconds by default. A slower head is answered with
     /// 408. The rest of a body that is skipped before the head counts as part of the head.
     pub head_time: Duration,
-    /// Maximum time without a byte of a head: 60 seconds by default. The connection is then closed without a response.
-    /// If a request was open when the time began, the time starts over when it ends.
+    /// Maximum time without a byte of a head: 60 seconds by default. After this time the connection is closed without a
+    /// response. But if a request was open when the time began, the time starts over instead.
     pub idle_time: Duration,
     /// Maximum time that reads of a body may wait: 60 seconds by default. The bytes of the body give time back, as
-    /// `least_rate` describes. Once the time is over, a read that got no bytes and each later one report `TimedOut`,
-    /// and the connection ends after the response.
+    /// `least_rate` describes. Once the time is over, a read that got no bytes and each later read of the body report
+    /// `TimedOut`, and the connection ends after the response.
     pub body_time: Duration,
     /// Maximum time that writes of responses may wait: 60 seconds by default. The bytes written give time back, as
     /// `least_rate` describes. Once the time is over, the output ends and the connection is closed.
@@ -35,11 +35,11 @@ pub struct Limits {
     /// give back the whole time.
     pub least_rate: usize,
     /// Maximum time without a byte in either direction on an upgraded stream: 10 minutes by default; `None` means no
-    /// limit. A read then reports `TimedOut`, and the connection is closed. The time begins with each read. If it is
-    /// over and bytes were written meanwhile, it starts over, so a silence may last up to twice as long.
+    /// limit. A read then reports `TimedOut`, and the connection is closed. The time begins with each read. But if
+    /// bytes were written in this time, the time starts over instead, so a silence may last up to twice as long.
     pub stream_time: Option<Duration>,
-    /// Maximum number of upgraded connections: 750 by default. A further upgrade is refused with
-    /// `UpgradeError::TooMany`. An upgraded connection counts until it is closed.
+    /// Maximum number of upgraded connections: 750 by default. A further upgrade fails with `UpgradeError::TooMany`. An
+    /// upgraded connection counts until it is closed.
     pub upgrades: usize,
     /// Maximum number of open requests and refused heads of one connection: 64 by default. At the limit the next head
     /// isn't read. A request is open until that request and each one before it are answered or dropped. Values below 2

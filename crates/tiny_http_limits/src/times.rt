@@ -72,8 +72,9 @@ impl Stall {
 
     /// Counts a call that waited for this time and moved this number of bytes. Returns whether the time is over.
     ///
-    /// The bytes give time back, but no more than was waited. The time is over once the whole of `patience.time` has
-    /// been waited, unless the rate is 0 and this call completed a piece of 4096 bytes.
+    /// The bytes give time back, but no more than was waited. The time is over once the time waited, less what was
+    /// given back, is at least `patience.time`. If the rate is 0 and this call completed a piece of 4096 bytes, the
+    /// time isn't over, and the stall starts anew.
     pub fn count(&mut self, waited: Duration, moved: usize, patience: Patience) -> bool
         ensures rate { 0 < patience.least_rate
             → GivesBack self.old (as_nanos waited) moved patience.least_rate self.new }

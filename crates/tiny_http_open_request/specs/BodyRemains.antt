@@ -15,8 +15,8 @@ abbrev pub breaking : List ℕ → ErrorKind → Feed
 breaking bytes kind = record { bytes = bytes; stop = Faults kind }
 
 -- Whether `body` is what is left of a chunked body within a chunk of which `left` bytes of data are to come, and `next`
--- where the next head begins. These bytes are followed by CR LF and a chunked body; or no CR LF follows them, and the
--- body breaks off; or fewer bytes come.
+-- is where the next head begins. The `left` bytes are followed by CR LF and a chunked body; or no CR LF follows them,
+-- and the body breaks off; or fewer than `left` bytes arrive, and the body breaks off.
 abbrev pub WithinChunk : Bool → ℕ → List ℕ → Stop → Feed → Place → Type 0
 WithinChunk standard left bytes stop body next =
     ((part : List ℕ)
@@ -41,9 +41,9 @@ abbrev pub IsMet : List ℕ → Feed → Place → Type 0
 IsMet bytes body next =
     ((body ≡ whole_feed []) × (next ≡ Some bytes)) ⊎ ((kind : ErrorKind) × (body ≡ breaking [] kind) × (next ≡ None))
 
--- WHAT IS LEFT OF A BODY: whether `body` is left of a body of this form, with n bytes left if the form has a length,
--- and `next` is where the next head begins. `Chunked`: the rest of a chunk and a chunked body, or a chunked body, or
--- nothing. Any other form: a body of that form.
+-- WHAT IS LEFT OF A BODY: whether `body` is what is left of a body of this form, with n bytes left if the form has a
+-- length, and `next` is where the next head begins. `Chunked`: a chunked body, the rest of a chunk and a chunked body,
+-- or an end or fault that was met and not yet reported. Any other form: a body of that form.
 abbrev pub RemainsAt : Bool → Form → ℕ → List ℕ → Stop → Feed → Place → Type 0
 RemainsAt standard Chunked n bytes stop body next =
     BodyAt standard Chunked n bytes stop body next

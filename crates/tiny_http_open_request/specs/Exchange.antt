@@ -15,7 +15,7 @@ use Rattle.tiny_http_response.specs.declared.response_context.ResponseContext.{R
 use Rattle.tiny_http_open_request.specs.TextState.{drop_text}
 use Rattle.tiny_http_body.specs.Body.{Remaining, remaining, remainder, is_streaming, is_whole, Fits, GivesUp}
 
--- the exchange of a request with this head, of which this is kept
+-- the exchange of a request, from its head and what is kept of the request until the response
 abbrev pub exchange_of : Head → OpenRequest UnreadBody → Exchange
 exchange_of head request = record { head = head; open_request = request }
 
@@ -53,7 +53,7 @@ exchange_streams x = is_streaming x.open_request.body
 abbrev pub exchange_owes_continue : Exchange → Bool
 exchange_owes_continue x = x.open_request.owes_continue
 
--- the text that is sent if an exchange's request is dropped; no bytes, once that was taken
+-- the text that is sent if an exchange's request is dropped, or no bytes once that text was taken
 abbrev pub exchange_drop_text : Exchange → List ℕ
 exchange_drop_text x = drop_text x.open_request.dropped (exchange_context x)
 
@@ -61,7 +61,8 @@ exchange_drop_text x = drop_text x.open_request.dropped (exchange_context x)
 abbrev pub exchange_check : Exchange → List ℕ → ℕ → Result ⊤ UpgradeError
 exchange_check x protocol code = request_check x.open_request protocol code (is_whole x.open_request.body)
 
--- whether the head of an exchange's request is unchanged, and what is kept of the request has changed in this way
+-- whether the head of an exchange's request is unchanged, and `P` relates what was kept of the request to what is kept
+-- now
 abbrev pub Changes : (OpenRequest UnreadBody → OpenRequest UnreadBody → Type 0) → Exchange → Exchange → Type 0
 Changes P old new = (new.head ≡ old.head) × P old.open_request new.open_request
 

@@ -100,7 +100,7 @@ FieldIn text (Err fault.Cut) = ⊥
 FieldIn text (Err fault.TooLarge) = ⊥
 FieldIn text (Err fault.Memory) = AreAscii text × IsSome (reading.header_line text)
 
--- whether this is why there is no next line within this limit
+-- whether this is why there is no next line within this limit; always true if memory is refused
 abbrev pub HasNoLine : Option ℕ → Option Feed → HeadFault → Type 0
 HasNoLine left None e = ⊤
 HasNoLine left (Some f) fault.Cut = IsUnfinished f.bytes × IsShort left f.bytes
@@ -193,7 +193,7 @@ head_framing h = h.framing
 abbrev pub request_of : Head → Feed → Feed → Request
 request_of h body behind = record { message = head_message h; framing = head_framing h; body = body; behind = behind }
 
--- whether a head has this fault within this limit, with its version if that was read
+-- whether a head has this fault within this limit, with its version if that was read; always true if memory is refused
 abbrev pub IsFaultyHead : Option ℕ → List ℕ → Option HTTPVersion → HeadFault → Type 0
 IsFaultyHead limit bytes v fault.Cut = IsUnfinishedHead limit bytes v
 IsFaultyHead limit bytes v fault.TooLarge = IsTooLarge limit bytes v
@@ -209,14 +209,14 @@ ReadsMessage limit (Some f) new (Ok m) =
     (rest : List ℕ) × BeginsWithin limit f.bytes (message_of m) rest × (new ≡ feed_from f rest)
 ReadsMessage limit (Some f) new (Err e) = IsFaultyHead limit f.bytes e.0 e.1
 
--- why no request follows if the input stopped in this way, after bytes of a head if `has_begun`, and otherwise before
--- its first byte
+-- why no request follows if the input stopped in this way: after bytes of a head if `has_begun`, and otherwise before
+-- the first byte of a head
 abbrev pub cut_end : Stop → Bool → EndOfRequests
 cut_end (Fault kind) has_begun = because.Fault kind
 cut_end End true = because.Cut
 cut_end End false = because.Closed
 
--- WHY NO REQUEST FOLLOWS under the rules of tiny_http: whether this is the reason that these bytes are no head, and get
+-- WHY NO REQUEST FOLLOWS under `Lenient` or `Strict`: whether this is the reason that these bytes are no head, and get
 -- no response. The head, or a body that is read with it, is cut, and not by a timeout; or a line of it isn't ASCII.
 abbrev pub RulesEndBy : HeadRules → List ℕ → Stop → EndOfRequests → Type 0
 RulesEndBy p bytes stop why =
@@ -253,7 +253,7 @@ RefusesWith status v date (Ok _) = ⊥
 RefusesWith status v date (Err e) = ⊤
 
 -- Whether a call refuses a head for its version, returns the text of the response in version 1.1, without a body if
--- `no_body`, and reports in `last` that no head follows exactly if `ends`; or memory for that text is refused.
+-- `no_body`, and reports whether no head follows (`last`), which is `ends`; or memory for that text is refused.
 abbrev pub RefusesTooNew : Bool → Bool → HttpDate → Result HeadRead AllocError → Type 0
 RefusesTooNew ends no_body date (Ok (read.Refused code text last)) =
     (code.0 ≡ 505)
@@ -263,7 +263,7 @@ RefusesTooNew ends no_body date (Ok _) = ⊥
 RefusesTooNew ends no_body date (Err e) = ⊤
 
 -- Whether this is the result for a head that is cut by this stop: a 408 for a timeout, otherwise the end without a
--- response.
+-- response; or memory for the 408 is refused.
 abbrev pub AnswersCut : Stop → Bool → Bool → HttpDate → Result HeadRead AllocError → Type 0
 AnswersCut stop standard has_begun date r =
     MatchBool (is_timed_out stop) (RefusesWith 408 (record { version = version 1 1; by_standard = standard }) date r)
@@ -286,7 +286,8 @@ ComesWith left stop body next = left ≡ Some (record { body = body; behind = pl
 abbrev pub FitsFraming : Framing → UnreadBody → Type 0
 FitsFraming f b = Fits f.by_standard b f.form (body_length_or_0 f) 0 false
 
--- Whether this is the body that begins at the input's position; or `None`, because it is read with its head and is cut.
+-- Whether this is the body that begins at the input's position, or there is none (`None`) because the body is read with
+-- its head and is cut.
 abbrev pub Begins : Framing → Option Feed → Option Feed → Option UnreadBody → Type 0
 Begins f None new b = ⊤
 Begins f (Some x) new None = IsCutWithHead f.form (body_length_or_0 f) x.bytes
@@ -302,12 +303,12 @@ abbrev pub TimesOut : Option Feed → Type 0
 TimesOut None = ⊥
 TimesOut (Some f) = is_timed_out f.stop ≡ true
 
--- whether a byte of a head comes; or, except under `Standard`, the reader times out
+-- whether a byte of a head arrives; or, except under `Standard`, the reader times out
 abbrev pub HasByteOrTimedOut : Profile → Option Feed → Type 0
 HasByteOrTimedOut p o = HasByte o ⊎ ((p ≢ under.Standard) × TimesOut o)
 
--- Whether the input is at this place after a refused head: at the next head, or, if the flag is true, since the refused
--- head was the last, at none.
+-- Whether `next` is the place after a refused head. If the flag is false, the input is at that place; if it is true,
+-- the refused head was the last, and there is no place (`None`).
 abbrev pub GoesOnAt : Bool → Stop → Place → Option Feed → Type 0
 GoesOnAt true stop next new = next ≡ None
 GoesOnAt false stop next new = new ≡ Some (place_feed stop next)
@@ -359,7 +360,7 @@ abbrev pub IsRequest : HeadRead → Type 0
 IsRequest (read.Request x) = ⊤
 IsRequest _ = ⊥
 
--- whether a head was refused, with another status than 408 and 431, and no head follows
+-- whether a head was refused, with a status other than 408 and 431, and no head follows
 abbrev pub IsRefusedUncut : HeadRead → Type 0
 IsRefusedUncut (read.Refused status text last) = (status.0 ≢ 408) × (status.0 ≢ 431) × (last ≡ true)
 IsRefusedUncut _ = ⊥
@@ -421,7 +422,7 @@ pub record TakesHead {R : Type 0} (p : Profile) (date : HttpDate) (old new : Sou
   pub goes_on : GoesOn old.feed new.feed
   -- Whatever the reader states: after the end of the source no head follows, and the reader isn't called.
   pub at_end : IsAtEnd old → IsOkEnd r × (new.reader ≡ old.reader)
-  -- Unless the result is that no request follows, a byte of a head has come; or, except under `Standard`, the reader
+  -- Unless the result is that no request follows, a byte of a head has arrived; or, except under `Standard`, the reader
   -- timed out. At the end of the source memory isn't refused.
   pub begun : (IsOkEnd r → ⊥) → HasByteOrTimedOut p old.feed
   -- Whatever the reader states: a request is framed as in `IsFramedAs`, its body fits that framing, and what is kept of

@@ -12,9 +12,9 @@ is_rest WithHead = false
 is_rest Counted = false
 is_rest Chunked = false
 
--- Whether a head asks for an upgrade that its profile accepts: under `Standard` as RFC 9110, section 7.8, requires,
--- unless the connection ends after the request; otherwise if its first `Connection` contains `upgrade`, so that its
--- body is the whole rest of the stream.
+-- Whether a head asks for an upgrade that its profile accepts: under `Standard` if it asks as RFC 9110, section 7.8,
+-- requires, and the connection doesn't end after the request; under another profile if the first `Connection` value
+-- contains `upgrade`, so that the body is the whole rest of the stream.
 abbrev pub is_upgrade : Head → Bool
 is_upgrade h =
     if h.framing.by_standard then h.framing.asks_upgrade && not h.framing.is_last else is_rest h.framing.form

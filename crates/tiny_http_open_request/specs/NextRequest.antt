@@ -1,4 +1,4 @@
--- Reading one head after another. Refused heads that another one follows are passed over.
+-- Reading one head after another. A refused head is passed over if another head follows it.
 use Rattle.std.specs.Prelude.{◌≡◌, ℕ, zero, suc, ◌^◌, ◌⊎◌, Bool, true, false, List, Option, Some, None, Result, Ok, Err}
 use Rattle.std.specs.declared.alloc.AllocError.{AllocError}
 use Rattle.httpdate.specs.declared.date.HttpDate.{HttpDate}
@@ -13,7 +13,7 @@ use Rattle.tiny_http_open_request.specs.declared.next_request.NextRequest.{NextR
 use Rattle.tiny_http_open_request.specs.declared.next_request.NextRequest.TheVariants as next
 use Rattle.tiny_http_open_request.specs.HeadReads.{TakesHead}
 
--- What the reading of heads changes: the source, the place for refusals, and the output that is lent for those.
+-- What the reading of heads changes: the source, the place for refusals, and the output that is lent to that place.
 pub record At (R P O : Type 0) : Type 0 where
   pub source : SourceState R
   pub place : P
@@ -37,8 +37,8 @@ abbrev pub after_refused : StatusCode → Bool → Found
 after_refused status true = Some (Ok (next.Ended (because.Refused status)))
 after_refused status false = None
 
--- whether this is found after a refused head: if the second flag is true, its response was put in the place for
--- refusals; otherwise memory for that was refused
+-- whether `found` is what is found after a refused head. If the second flag is true, the head's response was put in the
+-- place for refusals, and `after_refused` says what is found; otherwise memory for the response was refused.
 abbrev pub FollowsRefusal : StatusCode → Bool → Bool → Found → Type 0
 FollowsRefusal status last true found = found ≡ after_refused status last
 FollowsRefusal status last false found = (e : AllocError) × (found ≡ Some (Err e))
@@ -61,7 +61,7 @@ Follows refuses (Ok (read.Refused status text last)) here found there =
     × FollowsRefusal status last kept found
 Follows refuses (Err e) here found there = (found ≡ Some (Err e)) × Stays here there
 
--- ONE HEAD: whether a call reads one, and finds this
+-- ONE HEAD: whether a call reads one head, and finds this
 abbrev pub FindsHead : {R P O : Type 0} → Refuses P O → Profile → HttpDate → At R P O → Found → At R P O → Type 0
 FindsHead refuses profile date here found there =
     (r : Result HeadRead AllocError)
@@ -78,7 +78,8 @@ PassesHeads {R = R} {P = P} {O = O} refuses profile date (suc n) here there =
 abbrev pub PassesTooMany : {R P O : Type 0} → ℕ → At R P O → Result NextRequest AllocError → At R P O → Type 0
 PassesTooMany passed here r there = (passed ≡ 2 ^ 64) × ((e : AllocError) × (r ≡ Err e)) × (there ≡ here)
 
--- THE NEXT REQUEST: whether a call finds it, or the end, after the heads that are passed over.
+-- THE NEXT REQUEST: whether a call finds the next request, the end or refused memory after the heads that it passes
+-- over.
 pub record FindsNext {R P O : Type 0} (refuses : Refuses P O) (profile : Profile) (date : HttpDate) (here : At R P O)
     (r : Result NextRequest AllocError) (there : At R P O) : Type 0 where
   pub passed : ℕ

@@ -39,8 +39,8 @@ coding_for by_standard headers =
 abbrev pub is_final : ℕ → Bool
 is_final code = not (nat_lt code 200) && nat_lt code 1000
 
--- whether a response with this code is refused: under `Standard` it must be final, and in response to CONNECT it must
--- not be 2xx, which would open a tunnel
+-- whether a response with this code is refused: under `Standard` if it isn't final, or if it is a 2xx in response to
+-- `CONNECT`, which would open a tunnel
 abbrev pub refuses_code : Bool → Bool → ℕ → Bool
 refuses_code by_standard is_connect code = by_standard && (not (is_final code) || (is_connect && nat_lt code 300))
 
@@ -56,9 +56,9 @@ is_last_once_finished w left = ends_once_finished w.by_standard w.owes_continue 
 abbrev pub is_last_with_stream : {B : Type 0} → OpenRequest B → Remainder → Bool
 is_last_with_stream w left = w.holds_next_head || is_last_once_finished w left
 
--- Whether, under `Standard`, the response to a request says that the connection closes though its head doesn't require
--- it: if a response asked for that, the 100 is owed, or the rest of the body isn't skipped (it is long, or its end
--- isn't known).
+-- Whether, under `Standard`, the response to a request says that the connection closes though the request's head
+-- doesn't require it: if a response asked for that, the request's 100 is owed, or the rest of the body isn't skipped
+-- (it is long, or its end isn't known).
 abbrev pub closes_once_answered : Bool → Bool → Remainder → Bool
 closes_once_answered closes owed left = closes || (owed || not (is_skipped left))
 
@@ -75,7 +75,7 @@ is_plain Plain = true
 is_plain _ = false
 
 -- How the head of a response with a streamed body is printed: under `Standard` it says that the connection closes if
--- any other response would, or if the end of the connection ends the body.
+-- `final_context` does, or if the end of the connection ends the body.
 abbrev pub streaming_context : {B : Type 0} → OpenRequest B → ℕ → Remainder → ResponseContext
 streaming_context w status left =
     if w.by_standard && is_plain (streamed_form w.response_context status) then record (final_context w left)
@@ -97,7 +97,7 @@ abbrev pub request_check : {B : Type 0} → OpenRequest B → List ℕ → ℕ �
 request_check w protocol code is_whole =
     upgrade_check w.by_standard (w.holds_next_head && names_protocol w.upgrades.items protocol) protocol code is_whole
 
--- the open request with this body
+-- the open request with this body in place of its own
 abbrev pub with_body : {A B : Type 0} → OpenRequest A → B → OpenRequest B
 with_body w body = record {
   response_context = w.response_context;
@@ -111,7 +111,7 @@ with_body w body = record {
   body = body;
 }
 
--- the open request, after which the connection closes
+-- the open request, marked so that the connection closes after it
 abbrev pub closing : {B : Type 0} → OpenRequest B → OpenRequest B
 closing w = record w { closes = true }
 
@@ -133,7 +133,7 @@ HasNoDropText old new = new ≡ record old { owes_continue = false; dropped = re
 abbrev pub HasNoBodyLeft : OpenRequest UnreadBody → OpenRequest UnreadBody → Type 0
 HasNoBodyLeft old new = new ≡ record old { body = Over End; owes_continue = false; holds_next_head = false }
 
--- whether an outlet holds nothing back, and all that it took was sent on, unless its writer has ended
+-- whether an outlet holds nothing back, and all that it took was sent on, unless the outlet or its writer has ended
 abbrev pub HasSentAll : {W : Type 0} → OutletState W → Type 0
 HasSentAll o = (outlet_held o ≡ []) × SentOn o × IsFlushed (output_of o)
 

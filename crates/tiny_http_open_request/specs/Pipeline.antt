@@ -47,13 +47,14 @@ pub data Refusal : Type 0 where
   RequestTimeout : Refusal
   -- the head's expectation can't be met
   ExpectationFailed : Refusal
-  -- the head is larger than the profile allows, or has too many field lines
+  -- the head is larger than `Strict` allows; or, under `Standard`, it exceeds the maximum size after its request line,
+  -- or has too many field lines
   HeaderFieldsTooLarge : Refusal
   -- the head's version is above 1.1, under `Lenient` or `Strict`
   VersionNotSupported : Refusal
-  -- the head is larger than `Standard` allows, within its request line
+  -- the request line hasn't ended within the maximum size of a head under `Standard`
   RequestLineTooLong : Refusal
-  -- the head's transfer codings are unknown
+  -- under `Standard`, the head names unknown transfer codings before a final `chunked`
   CodingNotImplemented : Refusal
   -- the head's major version isn't 1, under `Standard`
   MajorVersionNotSupported : Refusal
@@ -87,7 +88,7 @@ framing_refusal Invalid = BadRequest
 framing_refusal Expectation = ExpectationFailed
 
 -- What one head asks for. `Asks`: the request is handed out. `Refuses`: the head is refused in this manner; `no_body`
--- marks a HEAD, which matters only for a 505, and `last` means that the refusal ends the connection.
+-- marks a `HEAD`, which matters only for `VersionNotSupported`, and `last` means that the refusal ends the connection.
 pub data Item : Type 0 where
   Asks : (request : Request) → Item
   Refuses : (refusal : Refusal) (manner : Manner) (no_body last : Bool) → Item
@@ -113,7 +114,7 @@ abbrev pub is_connect_method : Method → Bool
 is_connect_method Connect = true
 is_connect_method _ = false
 
--- UNDER THE RULES OF TINY_HTTP: whether the bytes begin with this head, of at most `limit` bytes if that is given, and
+-- UNDER `LENIENT` AND `STRICT`: whether the bytes begin with this head, of at most `limit` bytes if that is given, and
 -- `after` follows it
 abbrev pub BeginsWithin : Option ℕ → List ℕ → Message → List ℕ → Type 0
 BeginsWithin None bytes m after = BeginsWithRequestHead bytes m after
@@ -125,8 +126,8 @@ abbrev pub IsUnfinishedHead : Option ℕ → List ℕ → Option HTTPVersion →
 IsUnfinishedHead None bytes v = FaultyHead bytes v Cut
 IsUnfinishedHead (Some limit) bytes v = FaultyHead bytes v Cut × (length bytes < limit)
 
--- whether a head is too large: at least `limit` bytes came, each line that ends among the first `limit` is good, and
--- the head doesn't end among them
+-- whether a head is too large: at least `limit` bytes have arrived, each line that ends among the first `limit` is
+-- good, and the head doesn't end among them
 abbrev pub IsTooLarge : Option ℕ → List ℕ → Option HTTPVersion → Type 0
 IsTooLarge None bytes v = ⊥
 IsTooLarge (Some limit) bytes v = (limit ≤ length bytes) × FaultyHead (take limit bytes) v Cut
@@ -166,8 +167,8 @@ IsCutHead p bytes =
 abbrev pub IsNotAsciiHead : HeadRules → List ℕ → Type 0
 IsNotAsciiHead p bytes = (line : Option HTTPVersion) × FaultyHead (seen_within (head_limit p) bytes) line NotAscii
 
--- NO ITEM: whether the bytes get no response, since the head, or a body that is read with it, is cut, and not by a
--- timeout; or since its first faulty line isn't ASCII.
+-- NO ITEM: whether the bytes get no response: the head, or a body that is read with it, is cut, and not by a timeout;
+-- or the head's first faulty line isn't ASCII.
 abbrev pub HasNoItem : HeadRules → List ℕ → Stop → Type 0
 HasNoItem p bytes stop = (IsCutHead p bytes × (is_timed_out stop ≡ false)) ⊎ IsNotAsciiHead p bytes
 
@@ -244,7 +245,7 @@ pub data Heading : Type 0 where
   Refused : (refusal : Refusal) (manner : Manner) → Heading
   Heads : (message : Message) (framing : Framing) (after : List ℕ) → Heading
 
--- whether this is the heading of the bytes under the rules of tiny_http
+-- whether this is the heading of the bytes under `Lenient` or `Strict`
 abbrev pub RulesHeadAt : HeadRules → List ℕ → Stop → Heading → Type 0
 RulesHeadAt p bytes stop Silence = HasNoItem p bytes stop
 RulesHeadAt p bytes stop (Refused refusal v) = IsRefused p bytes stop refusal v
@@ -263,7 +264,7 @@ standard_open behind_request_line bytes stop =
     if nat_lt (length bytes) STANDARD_HEAD then standard_cut (is_begun bytes) stop
     else Refused (long_refusal behind_request_line) by_the_standard
 
--- the heading of a complete head with this framing; a short body of known length is read with it
+-- the heading of a complete head with this framing; a body of the form `WithHead` is read with it
 abbrev pub standard_heads : Message → Framing → List ℕ → Stop → Heading
 standard_heads m f after stop =
     if is_cut_with_head f.form (body_length_or_0 f) after then standard_cut true stop else Heads m f after
@@ -286,7 +287,7 @@ HeadAt Lenient bytes stop h = RulesHeadAt rules.Lenient bytes stop h
 HeadAt Strict bytes stop h = RulesHeadAt rules.Strict bytes stop h
 HeadAt Standard bytes stop h = StandardHeadAt bytes stop h
 
--- the profile that reads by these rules
+-- the profile that reads heads under these rules
 abbrev pub profile_of : HeadRules → Profile
 profile_of rules.Lenient = Lenient
 profile_of rules.Strict = Strict

@@ -1,5 +1,5 @@
--- The pipeline of a feed as a computation: from the heading at each position, which is itself computed under the rules
--- of tiny_http. The law of pipelines is proved from it.
+-- The pipeline of a feed as a computation: from the heading at each position, which under `Lenient` and `Strict` is
+-- itself computed. The law of pipelines is proved from it.
 use Rattle.std.specs.Prelude.{ℕ, zero, suc, ◌+◌, Bool, true, false, nat_lt, nat_le, List, [], ◌∷◌, ◌++◌, length, take}
 use Rattle.std.specs.Prelude.{drop, Option, Some, None, unwrap_or, Result, Ok, Err, if◌then◌else◌}
 use Rattle.tiny_http_io.specs.declared.device.Stop.{Stop}
@@ -62,7 +62,7 @@ whole_heading m after stop (Err fault) = Refused (framing_refusal fault) (plainl
 whole_heading m after stop (Ok f) =
     if is_cut_with_head f.form (body_length_or_0 f) after then cut_heading stop else Heads m f after
 
--- whether at least as many bytes came as the limit allows
+-- whether at least as many bytes have arrived as the limit allows
 abbrev pub is_full : Option ℕ → List ℕ → Bool
 is_full None bytes = false
 is_full (Some limit) bytes = nat_le limit (length bytes)
@@ -85,7 +85,7 @@ heading p bytes stop (Faulty v fault) = faulty (is_full (head_limit p) bytes) v 
 heading p bytes stop (Whole m after) =
     whole_heading m (all_after (head_limit p) bytes after) stop (framing p m.version m.headers)
 
--- the heading of the bytes at a position, under the rules of tiny_http
+-- the heading of the bytes at a position, under `Lenient` or `Strict`
 abbrev pub heading_of : HeadRules → Stop → List ℕ → Heading
 heading_of p stop bytes = heading p bytes stop (request_head_read (seen_within (head_limit p) bytes))
 

@@ -1,4 +1,4 @@
--- The effect on the input of the calls that read a head under `Standard`.
+-- The results of the calls that read a head under `Standard`.
 use Rattle.std.specs.Prelude.{◌≡◌, ◌&&◌, Bool, Result, Ok, MatchBool}
 use Rattle.std.specs.declared.alloc.AllocError.{AllocError}
 use Rattle.httpdate.specs.declared.date.HttpDate.{HttpDate}
@@ -16,7 +16,7 @@ abbrev pub IsHeadOf : StandardHead → Head → Type 0
 IsHeadOf read h = head_message h ≡ served_message (message_of read)
 
 -- Whether this is the result for a head that is cut by this stop: a 408 if it has begun and the reader timed out,
--- otherwise the end without a response.
+-- otherwise the end without a response; or memory for the 408 is refused.
 abbrev pub AnswersStandardCut : Stop → Bool → HttpDate → Result HeadRead AllocError → Type 0
 AnswersStandardCut stop has_begun date r =
     MatchBool (has_begun && is_timed_out stop) (RefusesWith 408 by_the_standard date r)

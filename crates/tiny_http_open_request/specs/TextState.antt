@@ -9,6 +9,6 @@ pub record TextState : Type 0 where
   pub is_taken : Bool
   pub date : HttpDate
 
--- the text that is sent if a request is dropped: an empty 500, or no bytes once that was taken
+-- the text that is sent if a request is dropped: an empty 500, or no bytes once that text was taken
 abbrev pub drop_text : TextState → ResponseContext → List ℕ
 drop_text t context = if t.is_taken then [] else own_text_by 500 (printing_in context t.date)

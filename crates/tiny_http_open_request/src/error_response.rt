@@ -88,8 +88,8 @@ pub(crate) fn persistence_of(by_standard: bool, is_last: bool) -> Option<Persist
 const TOO_NEW: &str = "This server only supports HTTP versions 1.0 and 1.1";
 
 /// Prints the response to a head whose version is above 1.1, under `Lenient` and `Strict`: a 505 in version 1.1 with a
-/// plain-text body that names the supported versions (as in tiny_http; RFC 9110, section 15.6.6). The body is omitted
-/// if `no_body` is set. Fails if memory is refused.
+/// plain-text body that names the supported versions (as in the original; RFC 9110, section 15.6.6). The body is
+/// omitted if `no_body` is set. Fails if memory is refused.
 pub fn too_new_answer(alloc: Global, no_body: bool, now: HttpDate) -> Result<Vec<u8>, AllocError>
     ensures { IfOk result
         (λ text. text.items ≡ refused_text (refusal_response VersionNotSupported) (plainly (version 1 1)) no_body

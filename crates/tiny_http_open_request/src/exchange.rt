@@ -33,7 +33,7 @@ pub struct Head {
     pub method: Method,
     /// The request target as it was sent; it may be empty.
     pub path: AsciiString,
-    /// The version in the request line; under `Standard` any version after 1.1 with major version 1 counts as 1.1.
+    /// The version in the request line; under `Standard`, a version 1.x above 1.1 counts as 1.1.
     pub version: HTTPVersion,
     /// The headers, in order.
     pub headers: Vec<Header>,
@@ -55,21 +55,21 @@ pub enum EndOfRequests {
     /// The last request has been read: according to its version or its `Connection` header the connection ends after
     /// it. Under `Standard` the connection also ends after a `CONNECT` request, after a request that was finished while
     /// its 100 was owed or more than 65,536 bytes of a body with a `Content-Length` were unread, and after a request
-    /// for an upgrade that was upgraded, or answered through its raw writer. Under any profile it ends after a response
-    /// with `Response::with_close`.
+    /// for an upgrade if it was upgraded, or answered through its raw writer. Under any profile it also ends after a
+    /// response with `Response::with_close`.
     LastRequest,
     /// The input ended before any byte of a further head. This includes an end within a body of known length (under
-    /// `Standard` that is `BrokenBody` once the body was read up to its cut), and an end or a fault within the rest of
-    /// a body that was discarded or skipped.
+    /// `Standard` that is `BrokenBody` if the body was read up to the cut), and an end or a fault within the rest of
+    /// such a body that was discarded or skipped.
     Closed,
     /// The input ended within a head, or within a body that is read with its head.
     Cut,
-    /// A line of the head has a byte that isn't ASCII (128 or above). Not returned under `Standard`.
+    /// The first bad line of the head has a byte that isn't ASCII (128 or above). Not returned under `Standard`.
     NotAscii,
     /// A head was refused with this status, which ended the requests.
     Refused(StatusCode),
-    /// The reader failed with this kind before the head, and a body that is read with it, had arrived. A timeout is
-    /// `Refused` with 408 instead; under `Standard` only if a byte of the head had arrived.
+    /// The reader failed with this kind before the head, or a body that is read with it, had arrived. A timeout is
+    /// `Refused` with 408 instead, except under `Standard` before the first byte of the head.
     Fault(ErrorKind),
     /// The previous body was read up to this fault, of the reader or of the body itself.
     BrokenBody(ErrorKind),
@@ -87,8 +87,8 @@ pub enum EndOfRequests {
 pub enum HeadRead {
     /// A request.
     Request(Exchange),
-    /// A head that is refused with this status. `text` is its complete response, to be sent in the turn of the head. If
-    /// `last` is set, no head follows.
+    /// A head that is refused with this status. `text` is the complete response to it, to be sent in the turn of the
+    /// head. If `last` is set, no head follows.
     Refused {
         status: StatusCode,
         text: Vec<u8>,
@@ -126,9 +126,9 @@ impl Exchange {
     /// byte each call returns 0, or the fault that cuts or breaks the body (RFC 9112, sections 6.2 and 7.1). Allocates
     /// nothing.
     ///
-    /// The fault is the reader's own, or `InvalidData` or `UnexpectedEof` of a chunked body; after it the source has
-    /// ended. A body of known length that is cut by the end of input ends there; under `Standard` that is
-    /// `UnexpectedEof`. A read of a discarded body returns 0.
+    /// The fault is the reader's own, or `InvalidData` or `UnexpectedEof` if the body is chunked; after it the source
+    /// has ended. If the end of input cuts a body of known length, the body ends there; under `Standard` the fault is
+    /// then `UnexpectedEof`. A read of a discarded body returns 0.
     pub fn read_body<R: ReadDevice>(
         &mut self,
         source: &mut Source<R>,
@@ -154,9 +154,9 @@ impl Exchange {
     /// body discarded before this call counts as read. `Response::with_close` is ignored.
     ///
     /// On an outlet that has ended this sends nothing, doesn't read the data, and returns `Ok`. Fails with the first
-    /// fault, of the data or of the writer (if both fail, either may be reported), or with `OutOfMemory` if memory for
-    /// data of unknown length is refused. The outlet has then ended; unless the writer failed, the bytes that were held
-    /// are sent.
+    /// fault of the data or of the writer (if both fail, with either), or with `OutOfMemory` if memory for data of
+    /// unknown length is refused. After a failure the outlet has ended; unless the writer failed, the bytes that were
+    /// held are sent.
     pub fn respond_on<W: WriteDevice, D: ReadDevice + Drop>(
         &mut self,
         alloc: Global,
@@ -174,20 +174,21 @@ impl Exchange {
     }
 
     /// Sends the response that upgrades the connection to `protocol` (RFC 9110, section 7.8), dated `now`, and flushes
-    /// it: the head alone, with `Connection: upgrade` and `Upgrade: PROTOCOL` before the other headers (as in
-    /// tiny_http). The data are dropped unread, and no 100 is owed afterwards. A fault of the writer ends the outlet,
+    /// it: the head alone, with `Connection: upgrade` and `Upgrade: PROTOCOL` before the other headers (as in the
+    /// original). The data are dropped unread, and no 100 is owed afterwards. A fault of the writer ends the outlet,
     /// and isn't reported. An outlet that has ended sends nothing. Allocates nothing.
     ///
     /// The caller must make this call in the request's turn, instead of sending a response, and must send neither a
-    /// response nor the text of a drop afterwards. From then on the output is the protocol's, and `read_body` reads its
-    /// input: the request's body, or under `Standard` all that follows that body. Under `Standard` the caller must read
-    /// no head after an upgrade.
+    /// response nor the text of a drop afterwards. From then on the output is the protocol's, and `read_body` reads the
+    /// protocol's input: the request's body, or under `Standard` all that follows that body. Under `Standard` the
+    /// caller must read no head after an upgrade.
     ///
     /// # Errors
-    /// Fails if the protocol isn't ASCII. Under `Standard` it also fails if the request doesn't ask for this protocol
-    /// or is its connection's last, if the code isn't 101, and if the body isn't whole (cut, broken, or not read to its
-    /// end, unless it was read with the head) or was discarded. Then nothing has changed, and a response or the text of
-    /// a drop is still to be sent.
+    /// Fails with `Protocol` if the protocol isn't ASCII. Under `Standard` it also fails with `NotAsked` if the request
+    /// doesn't ask for this protocol, is its connection's last, or had its body discarded; with `Status` if the code
+    /// isn't 101; and with `UnfinishedBody` if the body was cut, is broken, or was neither read with the head nor read
+    /// to its end. If several apply, the first in this order is reported. After a failure nothing has changed, and a
+    /// response or the text of a drop is still to be sent.
     pub fn upgrade_on<W: WriteDevice, D: Drop>(
         &mut self,
         alloc: Global,
@@ -249,9 +250,9 @@ impl Exchange {
     }
 
     /// Takes the text that is sent if this request is dropped: an empty 500, printed for the request's version, headers
-    /// and method, with the date on which the request was read (as in tiny_http). A later call returns no bytes. No 100
-    /// is owed afterwards. The caller must send the text in the request's turn, instead of a response, and discard the
-    /// body. Allocates nothing.
+    /// and method, with the date on which the request was read (as in the original). A later call returns no bytes. No
+    /// 100 is owed afterwards. The caller must send the text in the request's turn, instead of a response, and discard
+    /// the body. Allocates nothing.
     pub fn text_of_drop(&mut self) -> Vec<u8>
         ensures text { result.items ≡ exchange_drop_text self.old }
         ensures once { Changes HasNoDropText self.old self.new }

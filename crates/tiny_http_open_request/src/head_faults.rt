@@ -36,8 +36,8 @@ pub(crate) fn is_timed_out(stop: Option<Stop>) -> bool
     matches!(stop, Some(Stop::Fault(ErrorKind::TimedOut)))
 }
 
-// Refuses a head with this status: prints an empty response in this version, after which no head follows. Fails if
-// memory is refused.
+// Refuses a head with this status: prints an empty response, in this version or, under `Standard`, in 1.1. No head
+// follows. Fails if memory is refused.
 pub(crate) fn refused_with(
     alloc: Global,
     status: StatusCode,
@@ -73,8 +73,8 @@ fn ends_too_new(form: Form) -> bool
     matches!(form, Form::Rest | Form::Chunked)
 }
 
-// Skips a body of known length of which nothing has been read, and does nothing for any other body. Doesn't call the
-// reader, unless 2^64 bytes or more are to be skipped.
+// Skips the rest of a `Counted` body, and does nothing for a body of any other variant. Doesn't call the reader, unless
+// the bytes to skip add up to 2^64 or more.
 fn skip<R: ReadDevice>(source: &mut Source<R>, body: &UnreadBody)
     ensures passes { PassesOver body.now source.old source.new }
     ensures goes_on { GoesOn source.old.feed source.new.feed }
@@ -89,8 +89,8 @@ fn skip<R: ReadDevice>(source: &mut Source<R>, body: &UnreadBody)
     }
 }
 
-// Refuses a head for its version, under `Lenient` or `Strict`. If another head follows, skips the body of the refused
-// one. Fails if memory is refused.
+// Refuses a head for its version, under `Lenient` or `Strict`. If another head follows, skips the refused head's body.
+// Fails if memory is refused.
 pub(crate) fn refuse_too_new<R: ReadDevice>(
     alloc: Global,
     source: &mut Source<R>,
@@ -116,7 +116,8 @@ pub(crate) fn refuse_too_new<R: ReadDevice>(
 }
 
 // Returns the result for a source that stopped in this way before a head, or a body that is read with it, had arrived:
-// a refusal with 408 for a timeout, or otherwise why no request follows.
+// a refusal with 408 for a timeout, or otherwise why no request follows. `has_begun` means that bytes of the head had
+// arrived. Fails if memory is refused.
 pub(crate) fn answer_cut(
     alloc: Global,
     stop: Option<Stop>,

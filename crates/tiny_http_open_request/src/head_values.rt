@@ -29,8 +29,9 @@ impl Head {
         self.framing.form
     }
 
-    /// Returns whether the head expects a 100 before the body (RFC 9110, section 10.1.1): in any version, with or
-    /// without a body; under `Standard` only in version 1.1, if a body follows.
+    /// Returns whether the head expects a 100 before the body (RFC 9110, section 10.1.1). Under `Standard` an
+    /// expectation counts only in version 1.1 or above, and only if a body follows; under any other profile it counts
+    /// in every version, even if no body follows.
     #[inline(always)]
     pub fn owes_continue(&self) -> bool
         ensures { result ≡ self.now.framing.owes_continue }
@@ -38,9 +39,9 @@ impl Head {
         self.framing.owes_continue
     }
 
-    /// Returns whether the head asks for an upgrade (RFC 9110, section 7.8). Under `Standard` this requires version
-    /// 1.1, a `Connection` with the element `upgrade`, and an `Upgrade` that names a protocol. Under any other profile
-    /// this is false.
+    /// Returns whether the head asks for an upgrade (RFC 9110, section 7.8). Under `Standard` this requires version 1.1
+    /// or above, a `Connection` with the element `upgrade`, and an `Upgrade` that names a protocol. Under any other
+    /// profile this is false.
     #[inline(always)]
     pub fn asks_upgrade(&self) -> bool
         ensures { result ≡ self.now.framing.asks_upgrade }
@@ -96,10 +97,10 @@ impl Head {
     }
 
     /// Returns whether the head asks for an upgrade that its profile accepts (RFC 9110, section 7.8). Under `Standard`
-    /// it must satisfy `asks_upgrade`, and not be the connection's last (`is_last`). In exactly these cases, unless the
-    /// body was discarded, an upgrade to a protocol that `Upgrade` names doesn't fail with `NotAsked`. Under the other
-    /// profiles the first `Connection` must contain `upgrade`; all bytes after the head are then its body, and what
-    /// `Upgrade` names is ignored.
+    /// `asks_upgrade` must hold, and the request must not be its connection's last (`is_last`). In exactly these cases,
+    /// unless the body was discarded, an upgrade to a protocol that `Upgrade` names doesn't fail with `NotAsked`. Under
+    /// the other profiles the first `Connection` value must contain `upgrade`; all bytes after the head are then its
+    /// body, and what `Upgrade` names is ignored.
     pub fn is_upgrade(&self) -> bool
         ensures { result ≡ is_upgrade self.now }
     {

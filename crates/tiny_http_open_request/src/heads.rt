@@ -43,7 +43,7 @@ fn head_fault(fault: LineFault) -> HeadFault
     }
 }
 
-// Finds the next line within the limit: still in the source's buffer, or consumed.
+// Finds the next line within the limit. The line is then either still in the source's buffer, or consumed.
 fn find_text_line<R: ReadDevice>(
     alloc: Global,
     source: &mut Source<R>,
@@ -62,7 +62,7 @@ fn find_text_line<R: ReadDevice>(
     }
 }
 
-// Returns the rest of the limit after a line of `n` bytes and its CR LF.
+// Returns what is left of the limit after a line of `n` bytes and its CR LF.
 fn left_after(n: usize, left: Option<usize>) -> Option<usize>
     requires { IsWithin left n }
     ensures { result ≡ left_after n left }
@@ -186,8 +186,8 @@ fn read_fields<R: ReadDevice>(
     }
 }
 
-/// Reads a complete head, including its empty line, of at most `limit` bytes if that is given. Fails with the fault of
-/// the head, and with its version if that was read.
+/// Reads a complete head, including its empty line, of at most `limit` bytes if a limit is given. Fails with the fault,
+/// and with the head's version if the request line was read.
 pub(crate) fn read_message<R: ReadDevice>(
     alloc: Global,
     source: &mut Source<R>,

@@ -1,6 +1,6 @@
 //! A request that was handed out and has no response yet: what the server owes it, how its response is printed, and its
-//! body. A `Connection` keeps it under its number, a `Request` next to its turn. They manage the turn; this module
-//! decides what is sent, and what is owed afterwards.
+//! body. A `Connection` keeps it under its number, and a `Request` keeps it next to its turn. `Connection` and
+//! `Request` manage the turn; this module decides what is sent, and what is owed afterwards.
 ghost use Rattle.std.specs.Prelude.{◌≡◌, ◌+◌, ◌≤◌, ℕ, List, true, false, IfOk};
 ghost use Rattle.tiny_http_standard_head.specs.Validation.{names_protocol};
 ghost use Rattle.std.specs.List.{list_all};
@@ -38,8 +38,8 @@ use tiny_http_response::response_context::{Persistence, ResponseContext};
 use tiny_http_response::sending::send_unless_ended;
 use tiny_http_standard_head::validation::{asks_chunked, names_protocol};
 
-/// What the server still owes a request that the application holds: how its response is printed, whether a 100 is owed,
-/// whether the connection closes, and its body. The application has the head.
+/// What is kept of a request until its response, apart from its head, which the application has: how the response is
+/// printed, whether a 100 is owed, whether the connection closes, and the body.
 #[derive(Drop)]
 pub struct OpenRequest<B> {
     /// How the response to this request is printed.
@@ -56,7 +56,7 @@ pub struct OpenRequest<B> {
     pub is_connect: bool,
     /// Whether a response asked for the connection to close after this request.
     pub closes: bool,
-    /// The `Upgrade` headers of a request that holds the next head.
+    /// Copies of the request's `Upgrade` headers if it held the next head when it was created; otherwise empty.
     pub upgrades: Vec<Header>,
     /// What is sent if the request is dropped.
     pub dropped: DropText,
@@ -103,7 +103,7 @@ impl<B: Drop> OpenRequest<B> {
         })
     }
 
-    /// Replaces the body with the result of `map`.
+    /// Replaces the body with the value that `map` returns for it.
     #[inline(always)]
     pub fn map_body<C: Drop, F: FnOnce(B) -> C>(self, map: F) -> OpenRequest<C>
         requires { F.pre map self.body }
@@ -124,7 +124,7 @@ impl<B: Drop> OpenRequest<B> {
     }
 
     /// Makes the response to this request say, under `Standard`, that the connection closes after it (RFC 9112, section
-    /// 9.6). The caller must then read no further head.
+    /// 9.6); under another profile the response doesn't change. The caller must then read no further head.
     pub fn close(&mut self)
         ensures { self.new ≡ closing self.old }
     {
@@ -132,8 +132,8 @@ impl<B: Drop> OpenRequest<B> {
     }
 
     /// Returns whether no head is read after this request if it is now answered or dropped, or its raw writer is taken,
-    /// with `left` of its body unread. Under `Standard` this holds while its 100 is owed, since the client may omit the
-    /// body or send it, and both are right (RFC 9110, section 10.1.1), and if more of the body is left than the server
+    /// with `left` of its body unread. Under `Standard` this holds in two cases: its 100 is owed, so that the client
+    /// may either send the body or omit it (RFC 9110, section 10.1.1); or more of the body is left than the server
     /// skips. Under another profile it never holds.
     pub fn is_last_once_finished(&self, left: Remainder) -> bool
         ensures { result ≡ is_last_once_finished self.now left }
@@ -164,10 +164,10 @@ impl<B: Drop> OpenRequest<B> {
         context
     }
 
-    /// Returns whether a response with this code is refused. Under `Standard` a code is refused if it isn't final,
-    /// since the client would take a later response for the one to this request (RFC 9110, section 15.2), or doesn't
-    /// have three digits. So is a 2xx in response to `CONNECT`, since it would open a tunnel (section 9.3.6). Under
-    /// another profile no code is.
+    /// Returns whether a response with this code is refused. Under `Standard` three kinds of codes are refused: one
+    /// that doesn't have three digits; a 1xx, since the client would take a later response for the one to this request
+    /// (RFC 9110, section 15.2); and a 2xx in response to `CONNECT`, since it would open a tunnel (section 9.3.6).
+    /// Under another profile no code is refused.
     pub fn refuses(&self, status: StatusCode) -> bool
         ensures { result ≡ refuses_code self.now.by_standard self.now.is_connect status.0 }
     {
@@ -177,9 +177,9 @@ impl<B: Drop> OpenRequest<B> {
 
     /// Checks whether a response with this code can upgrade the connection to this protocol, and returns the first
     /// error that applies; `is_whole` means that the body needs no more input, and has no fault. The protocol must be
-    /// ASCII. Under `Standard` the request must ask for the protocol and not be its connection's last, the code must be
-    /// 101, and the body must be whole (RFC 9110, section 7.8). An element of `Upgrade` with a percent sign doesn't
-    /// count as a protocol.
+    /// ASCII. Under `Standard` the request must ask for the protocol, must not be its connection's last, and must not
+    /// have had its body discarded; the code must be 101; and the body must be whole (RFC 9110, section 7.8). An
+    /// element of `Upgrade` with a percent sign doesn't count as a protocol.
     pub fn check_upgrade(
         &self,
         protocol: &str,
@@ -199,9 +199,9 @@ impl<B: Drop> OpenRequest<B> {
     /// turn, and then discard the body.
     ///
     /// On an outlet that has ended this sends nothing, doesn't read the data, and returns `Ok`. Fails with the first
-    /// fault, of the data or of the writer (if both fail, either may be reported), or with `OutOfMemory` if memory for
-    /// data of unknown length is refused. The outlet has then ended; unless the writer failed, the bytes that were held
-    /// are sent.
+    /// fault of the data or of the writer (if both fail, with either), or with `OutOfMemory` if memory for data of
+    /// unknown length is refused. After a failure the outlet has ended; unless the writer failed, the bytes that were
+    /// held are sent.
     pub fn respond<W: WriteDevice, D: ReadDevice + Drop>(
         &mut self,
         alloc: Global,
@@ -227,7 +227,7 @@ impl<B: Drop> OpenRequest<B> {
     }
 
     // Returns how the head of a response with a streamed body is printed. Under `Standard` it says that the connection
-    // closes if any other response would, or if the end of the connection ends the body.
+    // closes if `final_context` does, or if the end of the connection ends the body.
     fn streaming_context(&self, status: StatusCode, left: Remainder) -> ResponseContext
         ensures { result ≡ streaming_context self.now status.0 left }
     {
@@ -286,12 +286,12 @@ impl<B: Drop> OpenRequest<B> {
     }
 
     /// Sends the response that upgrades the connection to `protocol` (RFC 9110, section 7.8), dated `now`, and flushes
-    /// it: the head alone, with `Connection: upgrade` and `Upgrade: PROTOCOL` before the other headers (as in
-    /// tiny_http). The data are dropped unread, and no 100 is owed afterwards. A fault of the writer ends the outlet,
+    /// it: the head alone, with `Connection: upgrade` and `Upgrade: PROTOCOL` before the other headers (as in the
+    /// original). The data are dropped unread, and no 100 is owed afterwards. A fault of the writer ends the outlet,
     /// and isn't reported. An outlet that has ended sends nothing. Allocates nothing.
     ///
     /// The caller must call `check_upgrade` first, and make this call in the request's turn, instead of sending a
-    /// response. From then on the output is the protocol's, and its input is what the body returns after
+    /// response. From then on the output is the protocol's, and the protocol's input is what the body returns after
     /// `become_stream`.
     pub fn upgrade<W: WriteDevice, D: Drop>(
         &mut self,
@@ -322,7 +322,7 @@ impl<B: Drop> OpenRequest<B> {
     }
 
     /// Takes the text that is sent if this request is dropped with `left` of its body unread: an empty 500, printed for
-    /// the request's version, headers and method, with the date on which the request was read (as in tiny_http). A
+    /// the request's version, headers and method, with the date on which the request was read (as in the original). A
     /// later call returns no bytes. No 100 is owed afterwards. The caller must send the text in the request's turn,
     /// instead of a response, and discard the body. Allocates nothing.
     pub fn take_drop_text(&mut self, left: Remainder) -> Vec<u8>
@@ -334,8 +334,9 @@ impl<B: Drop> OpenRequest<B> {
         self.dropped.take_text(context)
     }
 
-    /// Returns the text that is sent when this request is dropped with `left` of its body unread, or no bytes if it was
-    /// taken, and the body. The caller must discard the body once it has placed the text in the request's turn.
+    /// Returns the text that is sent when this request is dropped with `left` of its body unread (no bytes if the text
+    /// was already taken), and the body. The caller must discard the body once it has placed the text in the request's
+    /// turn.
     pub fn into_drop_text(self, left: Remainder) -> (Vec<u8>, B)
         ensures text { result.0.items ≡ drop_text self.dropped (final_context self left) }
         ensures body { result.1 ≡ self.body }
@@ -379,7 +380,7 @@ impl OpenRequest<UnreadBody> {
     }
 }
 
-// Returns the coding that the headers of a request ask for: under `Standard`, chunked or none (RFC 9110, section
+// Returns the coding that the headers of a request ask for: under `Standard`, `Chunked` or `None` (RFC 9110, section
 // 10.1.4).
 #[inline(always)]
 fn coding_for(by_standard: bool, headers: &[Header]) -> Option<Coding>

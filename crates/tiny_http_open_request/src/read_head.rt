@@ -123,23 +123,24 @@ fn end_at(input_state: InputState, why: EndOfRequests) -> EndOfRequests
 ///
 /// Under `Lenient` and `Strict` a head is refused with 400 for a malformed line, 408 if the reader timed out, even
 /// before the first byte, 417 for an expectation that can't be met, and 505 for a version above 1.1, with a plain-text
-/// body that names the supported ones (as in tiny_http). `Strict` also refuses a head with 431 if it hasn't ended
-/// within its maximum size (RFC 6585, section 5), and with 400 if its framing is invalid (RFC 9112, section 6.3). If
+/// body that names the supported ones (as in the original). `Strict` also refuses a head with 431 if the head hasn't
+/// ended within 65,536 bytes (RFC 6585, section 5), and with 400 if its framing is invalid (RFC 9112, section 6.3). If
 /// several faults apply, the first in this order decides: the first bad line, the size, the framing, the expectation, a
 /// cut body that is read with its head, the version.
 ///
-/// Under `Standard`, `tiny_http_standard_head` reads the head. It is refused with 400, 408, 414, 417, 431, 501 or 505,
-/// each an empty response in version 1.1 after which no head follows. A timeout before the first byte of a head gets no
+/// Under `Standard`, `tiny_http_standard_head` reads the head. It is refused with 400, 408, 414, 417, 431, 501 or 505;
+/// the response is empty and in version 1.1, and no head follows. A timeout before the first byte of a head gets no
 /// response. If several faults apply, the first in this order decides: the first bad line, the size, the version, the
 /// host and the framing of the body, its coding, the expectation, a cut body that is read with its head.
 ///
-/// Under the other profiles a 505 skips the body, and the next head follows it, unless the head names an upgrade or the
-/// body is chunked: then the source has ended. It has also ended after any other result, except a request and
-/// `LastRequest`. A call that returns `LastRequest` reads nothing, and the body of the last request can still be read.
+/// Under `Lenient` and `Strict`, after a 505 the refused head's body is skipped, and the next call reads the next head;
+/// but if the refused head names an upgrade or its body is chunked, the source has ended. The source has also ended
+/// after any other result, except a request and `LastRequest`. A call that returns `LastRequest` reads nothing, and the
+/// body of the last request can still be read.
 ///
 /// Under `Standard` the caller must read no head before a request that asks for an upgrade is answered or dropped, none
-/// after its upgrade or raw writer, and none after a request that was finished while its 100 was owed or more than
-/// 65,536 bytes of its body were unread. `Connection` ensures that.
+/// after such a request was upgraded or its raw writer was taken, and none after a request that was finished while its
+/// 100 was owed or more than 65,536 bytes of its body were unread. `Connection` ensures that.
 ///
 /// `read_head`, `read_body` and `give_up` on one source never read bytes of a body as a head. If the previous body was
 /// neither read to its end nor discarded, the result is `UnreadBody`, and the source ends.

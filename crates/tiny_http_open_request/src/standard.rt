@@ -76,7 +76,8 @@ fn head_of(head: StandardHead, framing: Framing) -> Head
     }
 }
 
-// Returns the result for a head that is cut. Without a byte of the head there is no response.
+// Returns the result for a head that is cut: a refusal with 408 for a timeout after its first byte, or otherwise why no
+// request follows. Fails if memory is refused.
 fn answer_standard_cut(
     alloc: Global,
     stop: Option<Stop>,

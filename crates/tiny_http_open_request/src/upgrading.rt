@@ -34,7 +34,7 @@ pub enum UpgradeError {
     /// Under `Standard`: the request's body wasn't read to its end, or it was cut or is broken.
     #[error("the request's body is not whole")]
     UnfinishedBody,
-    /// On a server with limits: the maximum number of upgraded connections is reached.
+    /// On a server with limits: the maximum number of upgraded connections has been reached.
     #[error("too many connections are upgraded")]
     TooMany,
 }
@@ -70,8 +70,8 @@ pub fn check_upgrade(
 }
 
 // Sends the response that upgrades a connection to this protocol, and flushes it: the head alone, with `Connection:
-// upgrade` and `Upgrade: PROTOCOL` before the other headers (as in tiny_http). Its data are dropped unread. A fault of
-// the writer isn't reported. An outlet that has ended sends nothing. Allocates nothing.
+// upgrade` and `Upgrade: PROTOCOL` before the other headers (as in the original). The response's data are dropped
+// unread. A fault of the writer isn't reported. An outlet that has ended sends nothing. Allocates nothing.
 pub(crate) fn send_upgrade_quietly<W: WriteDevice, D: Drop>(
     alloc: Global,
     outlet: &mut Outlet<W>,

@@ -39,8 +39,9 @@ client_address c = c.client.remote_addr
 abbrev pub client_profile : {R : Type 0} → {W : Type 0} → {Rt : Type 0} → ClientConnection R W Rt → Profile
 client_profile c = c.profile
 
--- A request that was handed out on this date, whose body fits its head, and whether another request may follow. The
--- request holds the input while its body is read from there, or if the next head waits for its response.
+-- Whether a request was handed out on this date with a body that fits its head. If that request is the last according
+-- to its head, no request follows; otherwise one may. The request holds the input while its body is read from there, or
+-- if the next head waits for its response.
 pub record HandsOut {R W Rt : Type 0} (old new : ClientConnection R W Rt) (date : HttpDate)
     (r : Request R W Rt) : Type 0 where
   pub framed : IsFramed r (client_profile old) date

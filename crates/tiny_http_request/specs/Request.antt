@@ -96,8 +96,8 @@ Says r secure address method path version =
     (request_secure r ≡ secure) × (request_address r ≡ address)
     × ((request_head r).method ≡ method) × ((request_head r).path ≡ path) × ((request_head r).version ≡ version)
 
--- whether a request is framed by its version and headers, and what is kept for its response is that of its head, on
--- this date
+-- whether a request is framed as its head requires under this profile, and what is kept for its response fits that head
+-- and this date
 abbrev pub IsFramed : {R : Type 0} → {W : Type 0} → {Rt : Type 0} → Request R W Rt → Profile → HttpDate → Type 0
 IsFramed r profile date = IsFramedBy profile date (request_head r) (request_open r)
 

@@ -28,9 +28,9 @@ error_by _ _ e = Io e
 abbrev pub fault_error : Form → Error → BodyError
 fault_error form e = error_by form (error_kind e) e
 
--- Why reading the rest of a body failed, whatever its form. `TooLong`: a body of unknown length has more bytes than the
--- limit. `Cut`: the bytes of a body of a known length ended early. `Io`: a fault was reported. `Memory` is
--- unrestricted.
+-- Why reading the rest of a body failed, whatever its form. `TooLong`: a body of unknown length, with no fault reported
+-- before, has more bytes than the limit. `Cut`: the bytes of a body that is read from the input ended early. `Broken`:
+-- never. `Io`: a fault was reported. `Memory` is unrestricted.
 abbrev pub FailsReading : UnreadBody → UnreadBody → BodyError → Type 0
 FailsReading old new TooLong = (bytes_left old ≡ None) × ((kind : ErrorKind) → body_stop old ≡ Some (Fault kind) → ⊥)
 FailsReading old new Cut = (is_streaming old ≡ true) × IsBodyOver new

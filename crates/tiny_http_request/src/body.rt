@@ -40,7 +40,7 @@ fn end_behind<R: ReadDevice + Drop, Rt: Wait + Drop>(reader: HeldReader<Source<R
 ///
 /// While bytes of it are to be read from the connection, the body holds the connection's input, and the next head
 /// waits. A body with a content length passes the input on with its last byte, a chunked one once a read has returned
-/// 0, and a dropped one at once. No head follows a dropped chunked body whose end wasn't reported, or a body that is
+/// 0, and a dropped one at once. No head follows a dropped chunked body whose end wasn't reported, nor a body that is
 /// cut or broken.
 ///
 /// Under `Standard` the body of a request that asks for an upgrade holds the input until the request is answered or

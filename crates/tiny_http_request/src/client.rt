@@ -223,9 +223,9 @@ impl<R: ReadDevice + Drop, W: WriteDevice + Drop, Rt: Wait + Copy> ClientConnect
     /// limit of open requests, which is at least 2: before a head, and before the response to a refused head, `next`
     /// waits until fewer are open. A `TimedReader` and a `TimedWriter` apply the other limits.
     ///
-    /// `next` returns `None` once the timers have been stopped. With limits it also does once a response ended the
-    /// output without being whole: its data were too short or failed, or the writer did; the client of a socket then
-    /// sees end of file. Fails if no further handle to the timers can be made.
+    /// `next` returns `None` once the timers have been stopped. With limits it also returns `None` once a response has
+    /// ended the output without being whole, because its data were too short or failed, or because the writer failed;
+    /// the client of a socket then sees end of file. Fails if no further handle to the timers can be made.
     pub fn set_timers(&mut self, timers: Arc<ConnectionTimers>) -> Result<(), AllocError>
         ensures over { IsOver self.new ↔ IsOver self.old }
         ensures input { client_source self.new ≡ client_source self.old }
@@ -248,11 +248,11 @@ impl<R: ReadDevice + Drop, W: WriteDevice + Drop, Rt: Wait + Copy> ClientConnect
     /// The call waits for the client, and until the last request's body, if it holds the input, is read to its end or
     /// given up. Under `Standard` it also waits until a request that asks for an upgrade is answered or dropped: a
     /// program that makes this call on the same thread does that first. It returns `None` after such a request if its
-    /// raw writer was taken or it was upgraded; if the stream of the upgrade still reads, once the stream has ended.
-    /// Under `Standard` it also returns `None` after a request that was finished while its 100 was owed, or while more
-    /// than 65,536 bytes of a body with a `Content-Length` were unread.
+    /// raw writer was taken or it was upgraded; if the stream of the upgrade still reads, the call first waits until
+    /// the stream has ended. Under `Standard` it also returns `None` after a request that was finished while its 100
+    /// was owed, or while more than 65,536 bytes of a body with a `Content-Length` were unread.
     ///
-    /// It returns `None` too once a response made with `with_close` has been sent; a call that waits for the client
+    /// It also returns `None` once a response made with `with_close` has been sent; a call that waits for the client
     /// then returns when the client sends a head, or sends no more. The client of a socket sees end of file after the
     /// last response, as `Request::respond` says. Refused heads are answered in their turn, for which the call doesn't
     /// wait. They end the requests, except that under `Lenient` and `Strict` the next head is read after one with a

@@ -401,7 +401,7 @@ impl<R: ReadDevice + Drop, W: WriteDevice + Drop, Rt: Wait + Drop> Request<R, W,
     ///
     /// After a response made with `with_close` no further request is handed out. Under `Standard` the connection's last
     /// response says `Connection: close`: this one, or that to a later request or refused head. The response to a later
-    /// request doesn't say it if that request was already dropped, is upgraded, or gives its raw writer.
+    /// request doesn't say it if that request was already dropped, is upgraded, or its raw writer is taken.
     ///
     /// Under each profile the writer signals that no byte follows once that last response is flushed: the client of a
     /// socket then sees end of file, even while a thread waits for the next head. It signals nothing after a raw writer
@@ -496,10 +496,10 @@ impl<R: ReadDevice + Drop, W: WriteDevice + Drop, Rt: Wait + Drop> Request<R, W,
     /// no request follows.
     ///
     /// Fails if the protocol isn't ASCII. Under `Standard` it also fails if the request doesn't ask for this protocol
-    /// or is its connection's last, if the status code isn't 101, and if the body wasn't read until a read returned 0,
-    /// or was cut or is broken. An empty body, or one of up to 1024 bytes that came with its head, needn't be read, and
-    /// one with a content length only to its last byte. On a server with limits it fails with `TooMany` if the limit of
-    /// upgraded connections is reached. A request that isn't upgraded is dropped.
+    /// or is its connection's last, if the status code isn't 101, or if the body was cut, is broken, or wasn't read
+    /// until a read returned 0. An empty body, or one of up to 1024 bytes that came with its head, needn't be read, and
+    /// a body with a `Content-Length` needs to be read only to its last byte. On a server with limits it fails with
+    /// `TooMany` if the limit of upgraded connections is reached. A request that isn't upgraded is dropped.
     pub fn upgrade<D: Drop>(
         self,
         protocol: &str,

@@ -131,8 +131,8 @@ impl TestBody {
     }
 }
 
-/// A builder of requests: `GET /` in version 1.1 without headers or body, from 127.0.0.1:23456, not encrypted, unless a
-/// call below changes it.
+/// A builder of requests: `GET /` in version 1.1 without headers or body, from 127.0.0.1:23456, not encrypted, unless
+/// one of its methods changes it.
 #[derive(Drop)]
 pub struct TestRequest {
     body: TestBody,

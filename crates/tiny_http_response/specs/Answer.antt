@@ -120,7 +120,7 @@ answer_head_text version status upgrade headers listed date framing =
     status_line version status ++ upgrade_lines upgrade ++ server_line headers ++ date_line headers date
     ++ flat_map field_line_of listed ++ framing_line framing ++ codes "\r\n"
 
--- whether the body is omitted: if the request is a HEAD (`asked`), and for the codes 100 to 199, 204 and 304 (RFC 9112,
+-- whether the body is omitted: if the request is a HEAD (`asked`), or the code is 100 to 199, 204 or 304 (RFC 9112,
 -- section 6.3)
 abbrev pub is_withheld : Bool → ℕ → Bool
 is_withheld asked status = asked || has_no_content status
@@ -208,8 +208,8 @@ LacksMemory old new (Err e) = (error_kind e ≡ OutOfMemory) × (new ≡ old)
 abbrev pub PrintsUncoded : {T : Type 0} → Sink → Sink → Result T Error → Option ℕ → Text → Type 0
 PrintsUncoded old new r length text = PrintsText old new r text ⊎ ((length ≡ None) × LacksMemory old new r)
 
--- whether the data of a response are read whole before its head is sent: it is not an upgrade, its code doesn't make it
--- only a head, it has no transfer coding, and the length of its data is unknown
+-- whether the data of a response are read whole before its head is sent: the response is not an upgrade, its code
+-- doesn't make it only a head, it has no transfer coding, and the length of its data is unknown
 abbrev pub IsGathered : Answer → Printing → Type 0
 IsGathered a p =
     (p.upgrade ≡ None)

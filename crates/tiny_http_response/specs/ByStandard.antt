@@ -73,7 +73,7 @@ framing_of_304 None = Neither
 framing_of_304 (Some n) = if n == 0 then Neither else ContentLength n
 
 -- The framing of a response that is only a head because of its code: neither header for a code below 200 and a 204,
--- length 0 for a 205, and that of a 304. None for any other code.
+-- length 0 for a 205, and `framing_of_304` for a 304. `None` for any other code.
 abbrev pub framing_without_content : ℕ → Option ℕ → Option FramingHeader
 framing_without_content status length =
     if nat_lt status 200 || status == 204 then Some Neither else

@@ -87,8 +87,8 @@ SendsUnlessEnded was old new ended text =
     MatchBool was (Idles old new × (ended ≡ true)) (SendsQuietly old new ended text)
 
 -- A TEXT IS SENT ON AN OUTLET: whether a call sends it without reporting a fault. An outlet that had ended sends
--- nothing. On any other the text is sent, or the writer fails, if the writer takes bytes and its failure count can
--- rise; if not, nothing is claimed.
+-- nothing. On any other outlet the text is sent, or the writer fails, if the writer takes bytes and its failure count
+-- can rise; if not, nothing is claimed.
 abbrev pub SendsQuietlyOn : {W : Type 0} → OutletState W → OutletState W → List ℕ → Type 0
 SendsQuietlyOn old new text =
     (old.ended ≡ false → CanSend (output_of old))
@@ -145,8 +145,8 @@ abbrev pub ReportsFailure : {T : Type 0} → Sink → Sink → Result T Error �
 ReportsFailure old new r = OnOk r (new.failures ≡ old.failures)
 
 -- ONE RESPONSE, sent on an outlet and flushed: whether a call does so. An outlet that had ended is unchanged, and no
--- fault is reported. On any other the text of the response is sent if the data state a feed of fewer than 2^63 bytes,
--- the writer takes bytes, and its failure count can rise.
+-- fault is reported. On any other outlet the text of the response is sent if the data state a feed of fewer than 2^63
+-- bytes, the writer takes bytes, and its failure count can rise.
 pub record SendsAnswer {W D : Type 0}
     (stated : D
     → Option Feed) (old new : OutletState W) (r : Result (Unit {0}) Error) (response : ResponseState D)

@@ -33,7 +33,6 @@ pub(crate) struct ResponseHead<'a> {
     pub(crate) date: HttpDate,
 }
 
-// Returns whether some header has this name.
 pub(crate) fn has_header(headers: &[Header], name: &str) -> bool
     ensures { result ≡ has_header headers.now name.now }
 {
@@ -82,7 +81,6 @@ fn put_status_line<W: WriteDevice>(
     put_other_status_line(writer, version, status)
 }
 
-// Writes one field line.
 #[tactic(auto, unfolding(crate::specs::Answer::field_line))]
 pub(crate) fn put_field<W: WriteDevice>(
     writer: &mut W,
@@ -106,7 +104,6 @@ fn put_header<W: WriteDevice>(writer: &mut W, header: &Header) -> Result<(), io:
     )
 }
 
-// Writes the field lines of a list of headers.
 fn put_headers<W: WriteDevice>(writer: &mut W, headers: &[Header]) -> Result<(), io::Error>
     ensures { Puts (W.sink writer.old) (W.sink writer.new) result (flat_map field_line_of headers.now) }
 {

@@ -61,7 +61,7 @@ fn most_wanted(value: &str) -> Option<Coding>
 
 /// Returns the coding that the headers of a request ask for (RFC 9110, section 10.1.4): in the first `TE` header the
 /// one with the greatest quality above 0, the first among equals (section 12.4.2). Returns `None` if there is no `TE`,
-/// or if the first accepts neither `identity` nor `chunked`. Allocates nothing.
+/// or if the first `TE` accepts neither `identity` nor `chunked`. Allocates nothing.
 #[tactic(auto, unfolding(crate::specs::Coding::coding_asked))]
 pub fn asked_coding(request_headers: &[Header]) -> Option<Coding>
     ensures { result ≡ coding_asked request_headers.now }
@@ -74,10 +74,10 @@ pub fn asked_coding(request_headers: &[Header]) -> Option<Coding>
     None
 }
 
-/// Chooses the coding of a response (RFC 9112, sections 6.1 and 7.4; as in tiny_http). It is `Identity` for a version
-/// up to 1.0, a status below 200 and a 204. Otherwise it is what the request asks for, as `asked_coding` returns it. If
-/// the request asks for none, it is `Chunked` if the length of the data, in bytes, is unknown or at least the
-/// threshold, and `Identity` if it is shorter.
+/// Chooses the coding of a response (RFC 9112, sections 6.1 and 7.4; as in the original). It is `Identity` for a
+/// version up to 1.0, for a status below 200, and for a 204. Otherwise it is what the request asks for, as
+/// `asked_coding` returns it. If the request asks for none, it is `Chunked` if the length of the data, in bytes, is
+/// unknown or at least the threshold, and `Identity` if the length is below the threshold.
 pub fn choose(
     version: HTTPVersion,
     asked: Option<Coding>,

@@ -21,7 +21,6 @@ pub(crate) struct Page {
 impl Page {
     ghost use Rattle.tiny_http_response.specs.Page.{page_sink};
 
-    /// Creates an empty page.
     pub(crate) fn new() -> Page
         ensures { page_sink result ≡ record
             { taken = Some []; sent = []; failures = 0; last_kind = None; has_ended = false } }

@@ -42,8 +42,8 @@ use tiny_http_text::ascii::AsciiString;
 use tiny_http_text::bytes::are_ascii;
 use tiny_http_text::copies::owned;
 
-/// A response: a status code, headers, and a reader of the data, whose length may be known. Contracts see it as a
-/// `ResponseState`: an `Answer`, and the reader.
+/// A response: a status code, headers, and a reader of the data, whose length may be known. Contracts see a `Response`
+/// as a `ResponseState`: an `Answer`, and the reader.
 #[derive(Drop)]
 pub struct Response<R> {
     reader: R,
@@ -56,7 +56,7 @@ pub struct Response<R> {
     contentless: bool,
 }
 
-/// A response whose data come from a boxed reader of any type (as in tiny_http).
+/// A response whose data come from a boxed reader of any type (as in the original).
 pub type ResponseBox = Response<Metered<Box<dyn Read + Send + Drop>>>;
 
 impl<R> Model for Response<R> {
@@ -81,9 +81,9 @@ impl<R> Model for Response<R> {
     ghost invariant = { λ r. IsResponseHeaders r.headers.items };
 }
 
-/// The default chunked threshold: data of this length in bytes or more are sent in chunks (as in tiny_http), unless
-/// `coding::choose` requires otherwise. To send a `Content-Length` for data of any length, such as a file, use
-/// `with_chunked_threshold(usize::MAX)`.
+/// The default chunked threshold: data of this length in bytes or more are sent in chunks (as in the original), unless
+/// `coding::choose` requires otherwise. To send data of any known length, such as a file, with a `Content-Length`, use
+/// `with_chunked_threshold(usize::MAX)`; a request may still get chunks if its `TE` asks for them.
 pub const THRESHOLD: usize = 32768;
 
 // Returns the header `Content-Type: text/plain; charset=UTF-8`. Fails if memory is refused.
@@ -97,10 +97,10 @@ fn text_plain(alloc: Global) -> Result<Header, AllocError>
 }
 
 impl<F: Read + OpenFile> Response<Metered<F>> {
-    /// Creates a 200 response with an open file as its data, and no headers (as in tiny_http). The length is the one in
-    /// the file's metadata, or unknown if the metadata can't be read. By default a file of `THRESHOLD` bytes or more is
-    /// sent in chunks, without a `Content-Length`; `with_chunked_threshold(usize::MAX)` changes that. If the file
-    /// shrinks before it is sent, sending it reports `UnexpectedEof`; in chunks it does so only under
+    /// Creates a 200 response with an open file as its data, and no headers (as in the original). The length is the one
+    /// in the file's metadata, or unknown if the metadata can't be read. By default a file of `THRESHOLD` bytes or more
+    /// is sent in chunks, without a `Content-Length`; `with_chunked_threshold(usize::MAX)` changes that. If the file
+    /// shrinks before it is sent, sending it fails with `UnexpectedEof`; in chunks it does so only under
     /// `Profile::Standard`. Allocates nothing.
     pub fn from_file(alloc: Global, file: F) -> Response<Metered<F>>
         ensures status { result.answer.status ≡ 200 }
@@ -115,7 +115,7 @@ impl<F: Read + OpenFile> Response<Metered<F>> {
 
 impl Response<Cursor<Vec<u8>>> {
     /// Creates a 200 response with this text as its data, of known length, and `Content-Type: text/plain;
-    /// charset=UTF-8` (as in tiny_http). Fails if memory for that header is refused.
+    /// charset=UTF-8` (as in the original). Fails if memory for that header is refused.
     pub fn from_string(alloc: Global, text: String) -> Result<Response<Cursor<Vec<u8>>>, AllocError>
         ensures answer { IfOk result (λ r. r.answer ≡ answer_with 200 (text_plain ∷ []) (string_len text)) }
         ensures bytes { IfOk result (λ r. cursor_bytes r.data_reader ≡ string_bytes text) }
@@ -245,8 +245,8 @@ impl<R> Response<R> {
 
     /// Creates a response with this status code and data; `data_length` is the length of the data in bytes, if known.
     /// Adds each of `headers` and then each of `more` as `add_header` does. The list reuses the allocation of
-    /// `headers`, so only a header of `more` needs memory. If that is refused, the error hands back the reader of the
-    /// data.
+    /// `headers`, so memory is needed only for headers of `more` that are appended. If it is refused, the error hands
+    /// back the reader of the data.
     pub fn new(
         status: StatusCode,
         mut headers: Vec<Header>,
@@ -321,8 +321,8 @@ impl<R> Response<R> {
     /// Offers to upgrade to these protocols, in place of any offered before: a list such as `websocket` or `h2c,
     /// foo/2`. A 426 must have one (RFC 9110, sections 7.8 and 15.5.22). Under `Profile::Standard` the response sends
     /// it in `Upgrade`, with a space in place of each byte that isn't allowed in a field value, and names `upgrade` in
-    /// `Connection`. Under other profiles, in the response of an upgrade and with a code below 200 the offer is
-    /// omitted.
+    /// `Connection`. The offer is omitted under any other profile, in the response of an upgrade, and with a code below
+    /// 200.
     pub fn with_upgrade_offer(self, protocols: AsciiString) -> Response<R>
         ensures { result ≡ record self { answer = record self.answer { offered = Some protocols } } }
     {
@@ -345,11 +345,11 @@ impl<R> Response<R> {
         response
     }
 
-    /// Adds a header (as in tiny_http). `Connection`, `Trailer`, `Transfer-Encoding` and `Upgrade` are ignored, in any
-    /// letter case. `Content-Length` sets the length of the data if its value is an optional `+` and digits, at most
-    /// 2^64 - 1; otherwise it is ignored. A second `Content-Type` replaces the value of the first, in place. Any other
-    /// header is appended. Only that needs memory: if it is refused, the error hands back the header, and the response
-    /// is unchanged.
+    /// Adds a header (as in the original). `Connection`, `Trailer`, `Transfer-Encoding` and `Upgrade` are ignored, in
+    /// any letter case. `Content-Length` sets the length of the data if its value is an optional `+` and digits, at
+    /// most 2^64 - 1; otherwise it is ignored. A second `Content-Type` replaces the value of the first, in place. Any
+    /// other header is appended. Only appending needs memory: if memory is refused, the error hands back the header,
+    /// and the response is unchanged.
     pub fn add_header(&mut self, header: Header) -> Result<(), Header>
         ensures added { OnOk result (self.new ≡ record self.old { answer = add_header header self.old.answer }) }
         ensures refused { IfErr result (λ h. (h ≡ header) × (self.new ≡ self.old)) }
@@ -399,9 +399,9 @@ impl<R> Response<R> {
 
     /// Returns whether a client reads each header as intended (RFC 9110, section 5.5; RFC 9112, section 5): the name
     /// has no white space (bytes 9 to 13 and 32) and no colon; the value is trimmed and has no CR LF; both are ASCII.
-    /// Check it if a header contains a client's text, such as a `Location` made from a decoded path: what follows a CR
-    /// LF would be read as another header. The client theorem requires it of the headers of a response that isn't
-    /// printed under `Profile::Standard`.
+    /// Call this if a header contains a client's text, such as a `Location` made from a decoded path: what follows a CR
+    /// LF would be read as another header. The client theorem (the law `conversation_is_read`) requires it of the
+    /// headers of a response that isn't printed under `Profile::Standard`.
     pub fn is_readable(&self) -> bool
         ensures { IsTrue result ↔ AllByRecursion IsReadable self.now.answer.headers }
     {
@@ -436,7 +436,7 @@ impl<R> Response<R> {
     ///
     /// Fails with the first fault, of the writer or of the data, and writes nothing after it. Fails with
     /// `UnexpectedEof` if the data end before their length, unless the body is omitted or sent in chunks. Reads data of
-    /// unknown length whole before the head, unless it sends them in chunks: if they fail, or if memory is refused
+    /// unknown length whole before the head, unless it sends them in chunks: if the data fail, or if memory is refused
     /// (`OutOfMemory`), nothing is written. Fails with `InvalidInput`, and writes nothing, if the protocol to upgrade
     /// to isn't ASCII.
     pub fn raw_print<W: WriteDevice>(
@@ -474,11 +474,11 @@ impl<R> Response<R> {
     }
 
     /// Prints the head and the body as `raw_print` does, with what `context` keeps of the request. If
-    /// `context.persistence` is `Some`, it follows `Profile::Standard`: the status line has version 1.1, each header
-    /// takes one line, and `Connection` comes before the response's headers if needed, except for an upgrade and a code
-    /// below 200. No data are read for a code below 200, 204, 205 and 304. In chunks, too, data that end before their
-    /// length are `UnexpectedEof`; without the last chunk the client sees that the response is incomplete (RFC 9112,
-    /// section 8).
+    /// `context.persistence` is `Some`, the response follows `Profile::Standard`: the status line has version 1.1, each
+    /// header takes one line, and `Connection` comes before the response's headers if needed, except for an upgrade and
+    /// a code below 200. No data are read for a code below 200, a 204, a 205 or a 304. In chunks, too, printing fails
+    /// with `UnexpectedEof` if the data end before their length; without the last chunk the client sees that the
+    /// response is incomplete (RFC 9112, section 8).
     pub fn print<W: WriteDevice>(
         self,
         alloc: Global,
@@ -543,9 +543,10 @@ impl<R> Response<R> {
 
     /// Prints only the head, for a response whose body is streamed after it as `ResponseContext::streamed_form` says.
     /// From version 1.1 on the head has `Transfer-Encoding: chunked`, even for a `HEAD`, unless the code has no
-    /// content; otherwise it has neither a length nor a coding (RFC 9112, section 6). Under `Profile::Standard`, which
-    /// it follows if `print` would, a 205 has `Content-Length: 0`, and a code below 100 neither. The data, their length
-    /// and the threshold are ignored. Fails with the writer's first fault, and writes nothing after it. Doesn't flush.
+    /// content. For a version up to 1.0, or a code without content, the head has neither a length nor a coding (RFC
+    /// 9112, section 6). Under `Profile::Standard`, which the head follows if `print` would, a 205 has a
+    /// `Content-Length` of 0, and a code below 100 has neither a length nor a coding. The data, their length and the
+    /// threshold are ignored. Fails with the writer's first fault, and writes nothing after it. Doesn't flush.
     pub fn print_head<W: WriteDevice>(
         &self,
         writer: &mut W,

@@ -26,17 +26,17 @@ pub struct ResponseContext {
     /// Whether the response has no body because the request is a `HEAD`.
     pub no_body: bool,
     /// What the response says about its connection (RFC 9112, section 9.6). `Some` prints the response as
-    /// `Profile::Standard` requires. `None` prints it as tiny_http does: with the request's version in the status line
-    /// and with the response's headers unchanged. It then has a length or a coding even if its code has no content,
-    /// unless it is an upgrade, its body is streamed, or `Response::contentless` made it.
+    /// `Profile::Standard` requires. `None` prints it as the original does: with the request's version in the status
+    /// line and with the response's headers unchanged. The response then has a length or a coding even if its code has
+    /// no content, unless the response is an upgrade, its body is streamed, or `Response::contentless` made it.
     pub persistence: Option<Persistence>,
 }
 
 impl ResponseContext {
     /// Returns how the body of a streamed response with this status code is sent. `Absent`: not at all, for a `HEAD`,
-    /// for a code without content, and under `Profile::Standard` for a 205 and a code below 100. `Plain`: otherwise, as
-    /// it is, for versions up to 1.0; the end of the connection ends it (RFC 9112, section 6.3). `Chunks`: otherwise,
-    /// in chunks (section 7.1).
+    /// for a code without content, or under `Profile::Standard` for a 205 or a code below 100. `Plain`: as is, in any
+    /// other response to a version up to 1.0; the end of the connection ends the body (RFC 9112, section 6.3).
+    /// `Chunks`: in chunks, in any other response to a later version (section 7.1).
     pub fn streamed_form(&self, status: StatusCode) -> StreamedForm
         ensures { result ≡ streamed_form self.now status.0 }
     {

@@ -173,7 +173,7 @@ pub fn write_quietly<W: WriteDevice>(outlet: &mut Outlet<W>, text: &[u8])
     let _ = outlet.write(text);
 }
 
-/// Flushes the bytes written so far, without reporting a fault.
+/// Flushes the bytes written so far, without reporting a fault. On an outlet that has ended, sends nothing.
 pub fn flush_quietly<W: WriteDevice>(outlet: &mut Outlet<W>)
     ensures sends { SendsQuietlyOn outlet.old outlet.new [] }
     ensures fails_once { FailsOnce outlet.old outlet.new }

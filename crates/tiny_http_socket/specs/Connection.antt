@@ -34,7 +34,7 @@ HasAddressOf (L.Tcp l) (A.Unix addr) = ⊥
 HasAddressOf (L.Unix l) (A.IP addr) = ⊥
 HasAddressOf (L.Unix l) (A.Unix addr) = ⊤
 
--- whether a connection of this kind can have this peer address: TCP any, but not none; a Unix socket only none
+-- whether a connection can have this peer address, given its kind: a TCP connection has one, and a Unix socket has none
 abbrev pub HasPeerOf : Connection → Option SocketAddr → Type 0
 HasPeerOf (C.Tcp s) (Some addr) = ⊤
 HasPeerOf (C.Tcp s) None = ⊥

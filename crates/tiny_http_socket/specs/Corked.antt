@@ -53,8 +53,8 @@ corked_sink c =
       has_ended = takes_none c.state c.sink;
     }
 
--- whether the inner writer took the buffered bytes and then n bytes of the text after them, at least one unless the
--- text is empty, or failed within the buffered bytes and the text
+-- The effect of writing the buffered bytes and then a text to the inner writer. `Ok n`: it took the buffered bytes and
+-- n bytes of the text, at least one unless the text is empty. `Err`: it failed within the buffered bytes and the text.
 abbrev pub PassesBehind : Sink → Sink → List ℕ → Result ℕ Error → List ℕ → Type 0
 PassesBehind old new waiting (Ok n) text =
     (n ≤ length text) × (0 < length text → 0 < n) × Took old new (waiting ++ take n text)

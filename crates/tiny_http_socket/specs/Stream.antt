@@ -39,17 +39,18 @@ pub record IsWritingHalf (connection : Connection) (s : RefinedTcpStream) : Type
   pub same : connection_of s ≡ connection
   pub sink : stream_sink s ≡ fresh_sink
 
--- whether a half can have this peer address, given the kind of its connection: TCP any, but not none; a Unix socket
--- only none
+-- whether a half can have this peer address, given the kind of its connection: a TCP connection has one, and a Unix
+-- socket has none
 abbrev pub HasSamePeer : RefinedTcpStream → Option SocketAddr → Type 0
 HasSamePeer s addr = HasPeerOf (connection_of s) addr
 
--- whether a connection may have this peer address: a TCP connection any or none, a Unix socket none
+-- whether a connection may have this peer address: a TCP connection may have any or none, and a Unix socket has none
 abbrev pub MayHavePeerOf : Connection → Option SocketAddr → Type 0
 MayHavePeerOf (C.Tcp s) addr = ⊤
 MayHavePeerOf (C.Unix s) None = ⊤
 MayHavePeerOf (C.Unix s) (Some addr) = ⊥
 
--- whether a half may have this peer address: that of a TCP connection any or none, that of a Unix socket none
+-- whether a half may have this peer address: a half of a TCP connection may have any or none, and a half of a Unix
+-- socket has none
 abbrev pub MayHavePeer : RefinedTcpStream → Option SocketAddr → Type 0
 MayHavePeer s addr = MayHavePeerOf (connection_of s) addr

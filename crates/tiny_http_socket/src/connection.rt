@@ -298,7 +298,7 @@ pub enum ConfigListenAddr {
 
 impl ConfigListenAddr {
     /// Resolves the addresses to listen at. Fails with the system's error if a host name isn't found or a text isn't an
-    /// address, and with `OutOfMemory` if memory is refused.
+    /// address, or with `OutOfMemory` if memory is refused.
     pub fn from_socket_addrs<R: Net, A: ToSocketAddrs>(
         rt: &R,
         alloc: Global,
@@ -329,8 +329,8 @@ impl ConfigListenAddr {
     }
 
     /// Listens at the first of the addresses that can be bound, or at the path, where it creates a file. Fails with the
-    /// system's error for the last address if none can be bound, or for the path; with `InvalidInput` if there is no
-    /// address or if the path is too long.
+    /// system's error for the last address if none can be bound, or for the path if it can't be bound; with
+    /// `InvalidInput` if there is no address or if the path is too long.
     pub fn bind<R: Net<Listener = TcpListener, Stream = TcpStream> + SocketFiles>(
         &self,
         rt: &R,

@@ -11,7 +11,7 @@ use std::sync::atomic::{AtomicBool, AtomicU8, AtomicU16, AtomicU64, Ordering};
 use tiny_http_limits::counts::{Closing, Summary};
 use tiny_http_limits::limits::Limits;
 
-// The lowest limit of open requests on a connection. A lower one is raised to it.
+// The lowest limit of open requests on a connection. A lower limit is raised to this one.
 const LEAST_OPEN: usize = 2;
 
 /// Maps an error to the one that is reported under limits: `WouldBlock`, the system's timeout, becomes `TimedOut`; any
@@ -30,7 +30,7 @@ pub fn fault_in_time(fault: io::Error) -> io::Error
 pub enum Phase {
     /// The first byte of a head.
     Between,
-    /// The rest of a head; also of a body that is read together with its head, or that is skipped before the next head.
+    /// The rest of a head, of a body that is read with its head, or of a body that is skipped before the next head.
     Head,
     /// Bytes of a body that is being read.
     Body,
@@ -74,7 +74,7 @@ fn closing_number(closing: Closing) -> u8 {
     }
 }
 
-// Returns the limit that this number encodes, or `None` for 0.
+// Returns the limit that this number encodes, or `None` for 0 and any other number that encodes none.
 fn closing_of(number: u8) -> Option<Closing> {
     match number {
         1 => Some(Closing::Idle),
@@ -95,7 +95,7 @@ pub struct ConnectionTimers {
     // Whether no further head is read.
     is_stopped: AtomicBool,
     requests: AtomicU64,
-    // The number of requests and refused heads without a response so far.
+    // The number of requests and refused heads that have no response yet.
     open: Arc<AtomicU64>,
     // The number of upgraded connections among those that share this count.
     upgraded: Arc<AtomicU64>,
@@ -134,7 +134,7 @@ impl ConnectionTimers {
         Ok(Arc::new(alloc, timers)?)
     }
 
-    /// Returns the counter of requests and refused heads without a response so far.
+    /// Returns the counter of requests and refused heads that have no response yet.
     pub fn open(&self) -> &Arc<AtomicU64> {
         &self.open
     }
@@ -144,8 +144,8 @@ impl ConnectionTimers {
         self.open.load(Ordering::SeqCst) > 0
     }
 
-    /// Returns the maximum number of open requests and refused heads, if there is one and it is reached. The maximum is
-    /// at least 2, since a buffered response is sent only when the connection is read.
+    /// Returns the maximum number of open requests and refused heads, if there is one and it has been reached. The
+    /// maximum is at least 2, since a buffered response is sent only when the connection is read.
     pub fn full_at(&self) -> Option<usize> {
         let most = self.limits.as_ref()?.open_requests.max(LEAST_OPEN);
         if self.open.load(Ordering::SeqCst) < most as u64 {
@@ -232,8 +232,8 @@ impl ConnectionTimers {
         self.has_written.swap(false, Ordering::SeqCst)
     }
 
-    /// Prevents any further head from being read. Returns whether the connection was waiting for a head: then nothing
-    /// more is read, and the caller must shut down the direction from the client.
+    /// Prevents any further head from being read. Returns whether the connection was waiting for a head or the rest of
+    /// one. If it was, nothing more is read, and the caller must shut down the direction from the client.
     pub fn stop(&self) -> bool {
         self.is_stopped.store(true, Ordering::SeqCst);
         self.stop_from(Phase::Between) || self.stop_from(Phase::Head)

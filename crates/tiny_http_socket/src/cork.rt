@@ -12,8 +12,8 @@ use std::sync::atomic::{AtomicBool, Ordering};
 use std::sync::{Arc, Mutex, Wait};
 use tiny_http_io::device::{ReadDevice, WriteDevice};
 
-/// Whether a flush of a connection's writer may leave bytes buffered. A caller that allows it has to send them soon, by
-/// `Cork::send`.
+/// Whether a flush of a connection's writer may leave bytes buffered. A caller that allows this must send those bytes
+/// soon, with `Cork::send`.
 #[derive(Drop)]
 pub struct FlushPolicy {
     may_leave: AtomicBool,
@@ -51,8 +51,8 @@ impl FlushPolicy {
         self.may_wait.swap(false, Ordering::SeqCst)
     }
 
-    // Returns whether bytes that are written or flushed now stay buffered. It checks again after recording that they
-    // may have been left, since `stop_and_take` may have run in between.
+    // Returns whether bytes that are written or flushed now stay buffered. Checks again after recording that bytes may
+    // have been left, since `stop_and_take` may have run in between.
     fn leaves(&self) -> bool {
         if !self.may_leave() {
             return false;
@@ -62,9 +62,9 @@ impl FlushPolicy {
     }
 }
 
-/// What the two halves of a connection share: the writer, and the bytes buffered for it. Bytes are written under the
-/// lock. A thread that writes, flushes or ends the writer waits for the lock; one that sends the buffered bytes before
-/// it reads doesn't, but asks the thread that holds the lock to send them.
+/// What the two halves of a connection share: the writer, and the bytes buffered for it. Bytes are written under a
+/// lock. A thread that writes, flushes or ends the writer waits for the lock. A thread that sends the buffered bytes
+/// before it reads doesn't wait, but asks the thread that holds the lock to send them.
 #[derive(Drop)]
 pub struct Cork<W: WriteBoth + Drop> {
     flush_policy: Arc<FlushPolicy>,
@@ -203,23 +203,24 @@ impl<W: WriteBoth + Drop, Rt: Wait> WriteDevice for CorkedWriter<W, Rt> {
     }
 
     /// Takes some of these bytes, and returns their number. They stay buffered if a flush may leave them and they fit;
-    /// otherwise the buffered bytes are sent, with some of these. Fails also with an earlier fault in sending buffered
-    /// bytes, if no call has reported it.
+    /// otherwise the buffered bytes are sent, with some of these. Also fails with an earlier fault in sending buffered
+    /// bytes, if no call has reported it. Once a fault has been reported, each write discards its bytes and returns
+    /// `Ok`.
     fn write_out(&mut self, buf: &[u8]) -> Result<usize, io::Error> {
         let written = self.cork.write(&self.rt, buf);
         self.count(&written);
         written
     }
 
-    /// Sends the buffered bytes, unless a flush may leave them. If it sends, it fails also with an earlier fault that
-    /// no call has reported.
+    /// Sends the buffered bytes, unless a flush may leave them. A flush that sends also fails with an earlier fault
+    /// that no call has reported.
     fn flush_out(&mut self) -> Result<(), io::Error> {
         let sent = self.cork.flush(&self.rt);
         self.count(&sent);
         sent
     }
 
-    /// Sends the buffered bytes, even if they may be left, and ends the writer. A fault isn't reported here.
+    /// Sends the buffered bytes, even if they may be left, and ends the writer. Doesn't report a fault.
     fn end_out(&mut self) {
         self.cork.end(&self.rt);
     }
@@ -232,7 +233,7 @@ struct Sending<W: WriteBoth + Drop> {
 }
 
 impl<W: WriteBoth + Drop> BeforeRead for Sending<W> {
-    // Clauses state nothing of it, since the bytes are sent under a lock.
+    // Contracts state nothing of this action, since the bytes are sent under a lock.
     ghost does = { λ _ _. ⊤ };
 
     /// Sends the buffered bytes, and makes each later flush send.

@@ -27,10 +27,10 @@ enum State {
     Ended,
 }
 
-/// A writer that buffers up to 16,384 bytes. It sends the buffered bytes before bytes that don't fit, and in a flush,
-/// `write_past` and `send_waiting`. After its first fault it sends nothing. The fault is reported by the write or flush
-/// that met it, or after `send_waiting` by the next write or flush. After that report it discards the bytes of each
-/// write, and returns `Ok`.
+/// A writer that buffers up to 16,384 bytes. It sends the buffered bytes before bytes that don't fit, and in
+/// `flush_out`, `write_past` and `send_waiting`. After its first fault it sends nothing. The write or flush that met
+/// the fault reports it; if `send_waiting` met it, the next write or flush does. After that report each write discards
+/// its bytes and returns `Ok`, and each flush returns `Ok`.
 #[derive(Drop)]
 pub struct Corked<W: WriteBoth> {
     writer: W,
@@ -246,7 +246,7 @@ impl<W: WriteBoth> WriteDevice for Corked<W> {
     }
 
     /// Buffers all the bytes if they fit. Otherwise sends the buffered bytes with some of these. Fails with the inner
-    /// writer's fault, or with one that `send_waiting` met; the latter takes no byte.
+    /// writer's fault, or, without taking a byte, with one that `send_waiting` met and no call has reported.
     fn write_out(&mut self, buf: &[u8]) -> Result<usize, io::Error>
         ensures puts { PutsFront (corked_sink self.old) (corked_sink self.new) result buf.now }
         ensures fault { self.old.state ≡ Open
@@ -264,7 +264,7 @@ impl<W: WriteBoth> WriteDevice for Corked<W> {
     }
 
     /// Sends the buffered bytes, and flushes the inner writer. Fails with the inner writer's fault, or with one that
-    /// `send_waiting` met.
+    /// `send_waiting` met and no call has reported.
     fn flush_out(&mut self) -> Result<(), io::Error>
         ensures puts { Puts (corked_sink self.old) (corked_sink self.new) result [] }
         ensures sent { OnOk result ((corked_sink self.new).has_ended ≡ false → HoldsNothing (corked_sink self.new)) }
@@ -282,7 +282,7 @@ impl<W: WriteBoth> WriteDevice for Corked<W> {
         }
     }
 
-    /// Ends the inner writer, unless bytes are buffered. The caller must send those first.
+    /// Ends the inner writer. If bytes are buffered, does nothing: the caller must send them first.
     fn end_out(&mut self)
         ensures sink { corked_sink self.new ≡ corked_sink self.old }
         // The buffer is unchanged, and so is whether more bytes are taken.

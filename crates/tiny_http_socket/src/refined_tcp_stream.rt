@@ -47,7 +47,7 @@ impl RefinedTcpStream {
     ghost use Rattle.tiny_http_socket.specs.Stream.{IsReadingHalf, IsWritingHalf, stream_sink, connection_of};
     ghost use Rattle.tiny_http_socket.specs.Stream.{HasSamePeer};
 
-    /// Splits a connection into its read half and its write half. The connection is closed once both halves and any
+    /// Splits a connection into its read half and its write half. The connection is closed once both halves and every
     /// other handle are dropped. Fails if memory is refused; the connection is then closed.
     pub fn new(
         alloc: Global,
@@ -213,7 +213,7 @@ impl Write for RefinedTcpStream {
 
 impl ReadDevice for RefinedTcpStream {
     /// Reads once from the client, and retries a call that a signal interrupts. Returns 0 at the end of input. If `buf`
-    /// is empty, returns 0 without a call.
+    /// is empty, returns 0 without a system call.
     fn read_in(&mut self, buf: &mut [u8]) -> Result<usize, io::Error> {
         if buf.is_empty() {
             return Ok(0);
@@ -234,7 +234,7 @@ impl WriteDevice for RefinedTcpStream {
     }
 
     /// Writes once to the client, and retries a call that a signal interrupts. If `buf` is empty, returns 0 without a
-    /// call. Fails with `WriteZero` if no byte is taken.
+    /// system call. Fails with `WriteZero` if no byte is taken.
     fn write_out(&mut self, buf: &[u8]) -> Result<usize, io::Error>
         ensures puts { PutsFront (stream_sink self.old) (stream_sink self.new) result buf.now }
         ensures empty { length buf.now ≡ 0 → (result ≡ Ok 0) × (self.new ≡ self.old) }

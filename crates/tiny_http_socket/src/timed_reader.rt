@@ -63,7 +63,7 @@ impl<R: ReadDevice + Drop, Rt: Clock> TimedReader<R, Rt> {
         self.rt.monotonic().unwrap_or(Duration::from_secs(0))
     }
 
-    // Sets the socket's read timeout, or clears it, unless it is unchanged.
+    // Sets the socket's read timeout to this one, or clears it for `None`. Does nothing if the timeout is unchanged.
     fn wait_for(&mut self, timeout: Option<Duration>) {
         if self.timeout != timeout {
             self.timeout = timeout;
@@ -142,8 +142,8 @@ impl<R: ReadDevice + Drop, Rt: Clock> TimedReader<R, Rt> {
         self.check_body(patience, begun, read)
     }
 
-    // Converts the result of a read from a body, begun at `begun`, into the one to report. Counts the time that it took
-    // if it returned bytes. If the socket's timeout ended it, the time for the body is over.
+    // Converts the result of a read from a body, begun at `begun`, into the one to report. Counts the time that the
+    // read took if it returned bytes. If the socket's timeout ended the read, the time for the body is over.
     fn check_body(
         &mut self,
         patience: Patience,
@@ -198,7 +198,7 @@ impl<R: ReadDevice + Drop, Rt: Clock> TimedReader<R, Rt> {
         self.stream_is_late()
     }
 
-    // Shuts the connection down because the time for the stream is over, and fails with `TimedOut`.
+    // Shuts the connection down, because the time for the stream is over, and fails with `TimedOut`.
     fn stream_is_late(&mut self) -> io::Result<usize>
         ensures { IsLate result }
     {
@@ -219,8 +219,8 @@ impl<R: ReadDevice + Drop, Rt: Clock> TimedReader<R, Rt> {
 }
 
 impl<R: ReadDevice + Drop, Rt: Clock> ReadDevice for TimedReader<R, Rt> {
-    /// Reads once. Under limits it waits at most as long as the current phase allows, and returns 0 without a call in
-    /// phase `Stopped`. An empty `buf` returns 0 without a call, too.
+    /// Reads once. Under limits it waits at most as long as the current phase allows, and in phase `Stopped` it returns
+    /// 0 without calling the inner reader. If `buf` is empty, it returns 0 without that call, too.
     fn read_in(&mut self, buf: &mut [u8]) -> Result<usize, io::Error> {
         if buf.is_empty() {
             return Ok(0);

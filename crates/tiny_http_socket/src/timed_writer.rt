@@ -16,12 +16,13 @@ use tiny_http_limits::limits::Limits;
 use tiny_http_limits::times::{Patience, Stall};
 
 // The maximum time that one system call waits, in milliseconds; it waits less if a write has less time. A call may time
-// out although the socket has room by then; the next call finds it.
+// out although the socket has room by then; the next call then finds that room.
 const STEP_MILLIS: u64 = 1_000;
 
 /// A writer to a client's socket. Under limits, once the time for writes is over, the connection is shut down, and the
-/// write fails with `TimedOut`, or the next one does if some bytes were taken. The clock is read only after a system
-/// call has taken fewer bytes than it was given. As a `WriteDevice` it counts its failures and states no bytes.
+/// write fails with `TimedOut`; if only some of its bytes were taken, the next write fails instead. If all of them were
+/// taken, the write succeeds, however late. The clock is read only after a system call has taken fewer bytes than it
+/// was given. As a `WriteDevice` it counts its failures and states no bytes.
 #[derive(Drop)]
 pub struct TimedWriter<Rt: Clock> {
     rt: Rt,
@@ -161,7 +162,7 @@ impl<Rt: Clock> TimedWriter<Rt> {
         true
     }
 
-    // Shuts the connection down because the time for writes is over. Each later nonempty write fails with `TimedOut`.
+    // Shuts the connection down, because the time for writes is over. Each later nonempty write fails with `TimedOut`.
     fn end_late(&mut self)
         ensures { timed_sink self.new ≡ timed_sink self.old }
     {
@@ -197,8 +198,8 @@ impl<Rt: Clock> WriteDevice for TimedWriter<Rt> {
         self.failures
     }
 
-    /// Writes some bytes to the client, and returns their number. If `buf` is empty, returns 0 without a call. Under
-    /// limits it returns at most a second after the time for writes is over.
+    /// Writes some bytes to the client, and returns their number. If `buf` is empty, returns 0 without a system call.
+    /// Under limits it returns at most a second after the time for writes is over.
     fn write_out(&mut self, buf: &[u8]) -> Result<usize, io::Error> {
         if buf.is_empty() {
             return Ok(0);

@@ -24,7 +24,8 @@ abbrev pub HasNoLine : NoLine → List ℕ → Type 0
 HasNoLine no.Bare bytes = BeginsWithBareLine bytes
 HasNoLine no.Open bytes = HasNo line_feed bytes
 
--- whether the bytes don't begin with a request line, for this reason
+-- whether parsing a request line from the bytes, after at most one empty line, fails for this reason; memory is needed
+-- only for a valid request line
 abbrev pub StopsRequest : List ℕ → NoHead → Type 0
 StopsRequest bytes stop.Bad = BeginsWithBadLine IsNoRequestLine (behind_empty_line bytes)
 StopsRequest bytes stop.OpenRequest = HasNo line_feed (behind_empty_line bytes)
@@ -36,8 +37,8 @@ StopsRequest bytes stop.Memory = HasGoodRequestLine bytes
 abbrev pub HasGoodFieldLine : List ℕ → Type 0
 HasGoodFieldLine bytes = (text : List ℕ) × (rest : List ℕ) × Line bytes text rest × (IsNoFieldLine text → ⊥)
 
--- whether the bytes don't begin with field lines, at most MOST_HEADERS, and an empty line, for this reason; memory is
--- needed only for a valid field line
+-- whether parsing field lines, at most MOST_HEADERS, and an empty line from the bytes fails for this reason; memory is
+-- needed only if the first line is a valid field line
 abbrev pub StopsFields : List ℕ → NoHead → Type 0
 StopsFields bytes stop.Bad =
     (headers : List Header)
@@ -67,7 +68,8 @@ EndsFields bytes headers after =
     × (length headers ≤ MOST_HEADERS)
     × Line empty [] after
 
--- whether no complete head was read from the bytes, for this reason
+-- whether parsing a complete head from the bytes fails for this reason; memory is needed only if the request line is
+-- valid
 abbrev pub StopsHead : List ℕ → NoHead → Type 0
 StopsHead bytes stop.Bad = HasBadLine bytes
 StopsHead bytes stop.OpenRequest = HasOpenRequestLine bytes
@@ -75,8 +77,8 @@ StopsHead bytes stop.OpenField = HasOpenField bytes
 StopsHead bytes stop.TooMany = HasTooManyFields bytes
 StopsHead bytes stop.Memory = HasGoodRequestLine bytes
 
--- whether a complete head was read from the bytes with this result: its length in bytes and the result of its
--- validation
+-- whether a complete head was read from the bytes with this result: either the head with its length in bytes and its
+-- summary, or the error of its validation
 abbrev pub ReadsWhole : List ℕ → StandardRead → Type 0
 ReadsWhole bytes (Whole h) =
     (after : List ℕ)

@@ -27,7 +27,7 @@ carriage_return = 13
 abbrev pub is_carriage_return : ℕ → Bool
 is_carriage_return b = b == carriage_return
 
--- whether the bytes begin with the line `text`, which has no LF, and its CR LF, and `rest` follows
+-- whether the bytes are the line `text`, which has no LF, then CR LF, then `rest`
 pub record Line (bytes text rest : List ℕ) : Type 0 where
   pub joins : bytes ≡ text ++ (carriage_return ∷ line_feed ∷ rest)
   pub first : HasNo line_feed text
@@ -40,7 +40,7 @@ pub record BeginsWithBareLine (bytes : List ℕ) : Type 0 where
   pub first : HasNo line_feed text
   pub bare : IsTrue (has_bare_end is_carriage_return text)
 
--- the bytes without one empty line at the beginning, if there is one
+-- the bytes after the empty line at their beginning, or all bytes if there is none
 abbrev pub behind_empty_line : List ℕ → List ℕ
 behind_empty_line [] = []
 behind_empty_line (a ∷ []) = a ∷ []
@@ -80,7 +80,7 @@ pub record HasGoodRequestLine (bytes : List ℕ) : Type 0 where
   pub line : Line (behind_empty_line bytes) text rest
   pub good : IsNoRequestLine text → ⊥
 
--- A MALFORMED LINE: whether the first line of the bytes is one, because its LF has no CR before it or its text `IsBad`
+-- A MALFORMED LINE: whether the bytes begin with one: its LF has no CR before it, or its text satisfies `IsBad`
 abbrev pub BeginsWithBadLine : (List ℕ → Type 0) → List ℕ → Type 0
 BeginsWithBadLine IsBad bytes =
     BeginsWithBareLine bytes ⊎ ((text : List ℕ) × (rest : List ℕ) × Line bytes text rest × IsBad text)
@@ -89,7 +89,8 @@ BeginsWithBadLine IsBad bytes =
 abbrev pub IsNoFieldOrEnd : List ℕ → Type 0
 IsNoFieldOrEnd text = (text ≢ []) × IsNoFieldLine text
 
--- whether `rest` follows a request line and field lines, at most MOST_HEADERS
+-- whether the bytes are a request line, after at most one empty line, then at most MOST_HEADERS field lines, then
+-- `rest`
 pub record ComesToField (bytes rest : List ℕ) : Type 0 where
   pub method : Method
   pub target : List ℕ
@@ -128,7 +129,7 @@ HasOpenField bytes = (rest : List ℕ) × ComesToField bytes rest × HasNo line_
 
 -- how bytes are read. `ReadWhole`: as a complete head, with what follows it and the result of its validation.
 -- `ReadBad`: as a malformed line. `ReadTooMany`: as a surplus field line. `ReadOpen`: as a line that hasn't ended,
--- either the request line or a later one.
+-- either the request line (`false`) or a later one (`true`).
 pub data Reading : Type 0 where
   ReadWhole : (message : Message) (after : List ℕ) (validated : Result HeadSummary HeadError) → Reading
   ReadBad : Reading
@@ -158,11 +159,11 @@ status_of (Invalid UnknownExpectation) = 417
 abbrev pub message_of : StandardHead → Message
 message_of h = record { method = h.method; path = h.target; version = h.version; headers = h.headers.items }
 
--- whether a byte of a head has come
+-- whether a byte of a head has come: a byte after at most one empty line
 abbrev pub is_begun : List ℕ → Bool
 is_begun bytes = not (length (behind_empty_line bytes) == 0)
 
--- THE RESULT OF READING these bytes, if a head may have at most `limit` bytes
+-- THE RESULT OF READING: whether these bytes are read with this result, if a head may have at most `limit` bytes
 abbrev pub Reads : ℕ → List ℕ → StandardRead → Type 0
 Reads limit bytes (Whole h) =
     (after : List ℕ)
@@ -181,7 +182,8 @@ Reads limit bytes (Refused TooManyFields) = HasTooManyFields (take limit bytes)
 Reads limit bytes (Unfinished has_begun) =
     (length bytes < limit) × (HasOpenRequestLine bytes ⊎ HasOpenField bytes) × (has_begun ≡ is_begun bytes)
 
--- whether two results agree: the same head, length and summary; the same fault; or unfinished with the same flag
+-- whether two results agree: the same head, length and summary; the same fault; or both unfinished with the same
+-- `has_begun`
 abbrev pub IsSameRead : StandardRead → StandardRead → Type 0
 IsSameRead (Whole h) (Whole k) = (message_of h ≡ message_of k) × (h.length ≡ k.length) × (h.summary ≡ k.summary)
 IsSameRead (Refused e) (Refused f) = e ≡ f

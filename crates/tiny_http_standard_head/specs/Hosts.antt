@@ -30,8 +30,8 @@ is_registered_name (b ∷ bs) =
 abbrev pub is_address_byte : ℕ → Bool
 is_address_byte b = is_ascii_hexdigit b || (b == colon || b == point)
 
--- whether the text is a bracketed address, which replaces IP-literal: one or more hexadecimal digits, colons and points
--- in brackets, not validated further
+-- whether the text is a bracketed address, which is accepted in place of an IP-literal: one or more hexadecimal digits,
+-- colons and points in brackets, not validated further
 pub record IsBracketedAddress (text : List ℕ) : Type 0 where
   pub address : List ℕ
   pub joins : text ≡ codes "[" ++ address ++ codes "]"

@@ -22,7 +22,7 @@ digit_zero = 48
 abbrev pub capital_a : ℕ
 capital_a = 65
 
--- whether the text is this HTTP-version = "HTTP/" DIGIT "." DIGIT
+-- whether the text is this HTTP-version = HTTP-name "/" DIGIT "." DIGIT, where HTTP-name is HTTP in upper case
 pub record IsVersion (text : List ℕ) (v : HTTPVersion) : Type 0 where
   pub joins : text ≡ codes "HTTP/" ++ (digit_zero + v.0) ∷ point ∷ (digit_zero + v.1) ∷ []
   pub major : v.0 < 10

@@ -29,13 +29,13 @@ use Rattle.tiny_http_standard_head.specs.Heads.{behind_empty_line, BeginsWithReq
 use Rattle.tiny_http_standard_head.specs.Heads.{BeginsWithBadLine, IsNoFieldOrEnd, HasOpenRequestLine, is_begun}
 use Rattle.tiny_http_standard_head.specs.Heads.{HasGoodRequestLine, Reads}
 
--- whether the line is malformed: it doesn't end with a CR, or its text doesn't match the grammar for its place
+-- whether the line is malformed: it doesn't end with a CR, or its text satisfies `IsBad`
 abbrev pub IsBadLine : (List ℕ → Type 0) → List ℕ → Type 0
 IsBadLine IsBad line =
     IsTrue (has_bare_end is_carriage_return line)
     ⊎ ((text : List ℕ) × (line ≡ text ++ carriage_return ∷ []) × IsBad text)
 
--- whether the line is valid: it ends with a CR, and its text isn't a bad one
+-- whether the line is valid: it ends with a CR, and its text doesn't satisfy `IsBad`
 abbrev pub IsGoodLine : (List ℕ → Type 0) → List ℕ → Type 0
 IsGoodLine IsBad line = (text : List ℕ) × (line ≡ text ++ carriage_return ∷ []) × (IsBad text → ⊥)
 
@@ -43,8 +43,8 @@ IsGoodLine IsBad line = (text : List ℕ) × (line ≡ text ++ carriage_return �
 abbrev pub IsNoRequestOrEmpty : List ℕ → Type 0
 IsNoRequestOrEmpty text = (text ≢ []) × IsNoRequestLine text
 
--- whether a line is read with this result: as a request line or the empty line; memory is needed only for a request
--- line
+-- whether a line is read with this result: as a request line, as the empty line, or as a malformed line; memory is
+-- needed only for a request line
 abbrev pub RequestIn : List ℕ → Result (Option (Method × List ℕ × HTTPVersion)) NoHead → Type 0
 RequestIn line (Ok None) = line ≡ carriage_return ∷ []
 RequestIn line (Ok (Some r)) =
@@ -53,7 +53,8 @@ RequestIn line (Err (Refused BadLine)) = IsBadLine IsNoRequestOrEmpty line
 RequestIn line (Err Memory) = IsGoodLine IsNoRequestLine line
 RequestIn line (Err _) = ⊥
 
--- whether a line is read with this result: as a field line or the empty line; memory is needed only for a field line
+-- whether a line is read with this result: as a field line, as the empty line, or as a malformed line; memory is needed
+-- only for a field line
 abbrev pub FieldIn : List ℕ → Result (Option Header) NoHead → Type 0
 FieldIn line (Ok None) = line ≡ carriage_return ∷ []
 FieldIn line (Ok (Some h)) = (text : List ℕ) × (line ≡ text ++ carriage_return ∷ []) × ReadsFieldLine text h
@@ -61,7 +62,7 @@ FieldIn line (Err (Refused BadLine)) = IsBadLine IsNoFieldOrEnd line
 FieldIn line (Err Memory) = IsGoodLine IsNoFieldLine line
 FieldIn line (Err _) = ⊥
 
--- the reason why no head was read if no line was found; `later` says whether a line of the head came before
+-- the reason why no head was read if no line was found; `later` says whether the request line was already read
 abbrev pub no_head : NoLine → StandardFault → Bool → NoHead
 no_head (no_line.Cut has_begun) too_long later = Unfinished (has_begun || later)
 no_head no_line.TooLong too_long later = Refused too_long
@@ -77,11 +78,11 @@ abbrev pub IsUnfinishedRead : StandardRead → Type 0
 IsUnfinishedRead (read.Unfinished has_begun) = ⊤
 IsUnfinishedRead _ = ⊥
 
--- whether the limit shrank from `limit` to `left` by the number of bytes taken
+-- whether the limit shrank from `limit` to `left` by the number of bytes taken: those of `bytes` before `rest`
 abbrev pub IsSpent : ℕ → List ℕ → ℕ → List ℕ → Type 0
 IsSpent limit bytes left rest = limit + length rest ≡ left + length bytes
 
--- whether a line at the front of the bytes, within the limit, was taken
+-- whether the line `text` was taken from the front of the feed with its CR LF, and is within the limit
 pub record TakesText (limit left : ℕ) (f : Feed) (new : Option Feed) (text : List ℕ) : Type 0 where
   pub rest : List ℕ
   pub line : Line (take limit f.bytes) text (take left rest)
@@ -185,7 +186,7 @@ ReadsFields limit left (Some f) new (Err (Unfinished has_begun)) =
 ReadsFields limit left (Some f) new (Err Memory) = ⊤
 ReadsFields limit left (Some f) new (Err _) = ⊥
 
--- whether this is the result of reading a head if there is none, for this reason
+-- whether this is the result of reading a head if none was read, for this reason
 abbrev pub IsWithoutHead : NoHead → Result StandardRead AllocError → Type 0
 IsWithoutHead (Refused fault) r = r ≡ Ok (read.Refused fault)
 IsWithoutHead (Unfinished has_begun) r = r ≡ Ok (read.Unfinished has_begun)
@@ -196,7 +197,8 @@ abbrev pub LeavesBehind : Feed → Option Feed → StandardRead → Type 0
 LeavesBehind f new (read.Whole h) = new ≡ feed_from f (drop h.length f.bytes)
 LeavesBehind f new _ = ⊤
 
--- A HEAD OF A SOURCE is read as all bytes still to come would be, and the input continues after it.
+-- A HEAD OF A SOURCE: whether it is read with the result of reading all bytes still to come, and the input continues
+-- directly after it if it is complete
 abbrev pub ReadsFrom : ℕ → Option Feed → Option Feed → StandardRead → Type 0
 ReadsFrom limit None new r = ⊤
 ReadsFrom limit (Some f) new r = Reads limit f.bytes r × LeavesBehind f new r

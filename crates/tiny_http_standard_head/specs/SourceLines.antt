@@ -15,12 +15,12 @@ pub record EndsLine (bytes : List ℕ) (n : ℕ) : Type 0 where
   pub ends : take (n + 1) bytes ≡ take n bytes ++ line_feed ∷ []
   pub first : HasNo line_feed (take n bytes)
 
--- whether these bytes were taken, and none is an LF
+-- whether these bytes were taken from the feed, and none of them is an LF
 pub record Passes (old new : Option Feed) (gone : List ℕ) : Type 0 where
   pub joins : old ≡ prepended gone new
   pub none : HasNo line_feed gone
 
--- whether this line was taken, with its LF, and is within the limit
+-- whether this line was taken with its LF, and has at most `limit` bytes, including the LF
 pub record TakesLine (limit : ℕ) (old new : Option Feed) (line : List ℕ) : Type 0 where
   pub joins : old ≡ prepended (line ++ line_feed ∷ []) new
   pub first : HasNo line_feed line

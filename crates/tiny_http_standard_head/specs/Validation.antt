@@ -19,7 +19,7 @@ use Rattle.tiny_http_head.specs.Target.{slash}
 use Rattle.tiny_http_standard_head.specs.Hosts.{percent, IsHostValue}
 use Rattle.tiny_http_standard_head.specs.Lists.{values_of, elements_of, has_element_that, has_element}
 
--- whether the version is 1.0. Each later minor version counts as 1.1; in this file's comments 1.1 means all of them.
+-- whether the version is 1.0. Each later minor version counts as 1.1.
 abbrev pub is_1_0 : HTTPVersion → Bool
 is_1_0 v = v.0 == 1 && v.1 == 0
 
@@ -37,15 +37,17 @@ is_chunked coding = same_name coding (codes "chunked")
 abbrev pub is_unknown_coding : List ℕ → Bool
 is_unknown_coding coding = not (is_chunked coding) && not (bytes_eq coding [])
 
--- THE BODY, according to the elements of Content-Length and Transfer-Encoding: without codings it has the one length,
--- or there is none; with codings it is chunked, which is the only coding, in version 1.1 and without a content length.
+-- THE BODY, according to the elements of Content-Length and Transfer-Encoding: whether its length is `n` and `chunked`
+-- says whether it is chunked. Without codings, `n` is the one content length, or `None` if there is none, and the body
+-- isn't chunked. With codings, chunked is the only one, the version is 1.1 or later, there is no content length, and
+-- the body is chunked.
 abbrev pub IsBodyFraming : HTTPVersion → List (List ℕ) → List (List ℕ) → Option ℕ → Bool → Type 0
 IsBodyFraming v lengths [] n chunked = IsOneLength lengths n × (chunked ≡ false)
 IsBodyFraming v [] (coding ∷ codings) n chunked =
     IsTrue (not (is_1_0 v)) × IsTrue (is_chunked coding) × (codings ≡ []) × (n ≡ None) × (chunked ≡ true)
 IsBodyFraming v (length ∷ lengths) (coding ∷ codings) n chunked = ⊥
 
--- whether unknown codings are followed by chunked, without a content length, in version 1.1
+-- whether unknown codings are followed by chunked, without a content length, in version 1.1 or later
 pub record HasUnknownCodings (v : HTTPVersion) (lengths codings : List (List ℕ)) : Type 0 where
   pub later : IsTrue (not (is_1_0 v))
   pub no_length : lengths ≡ []
@@ -65,7 +67,7 @@ has_body (Some n) chunked = nat_lt 0 n
 abbrev pub is_unknown_expectation : List ℕ → Bool
 is_unknown_expectation element = not (same_name element (codes "100-continue")) && not (bytes_eq element [])
 
--- whether a 100 is due: in version 1.1, if a body follows and the head expects it
+-- whether a 100 is due: in version 1.1 or later, if a body follows and Expect lists 100-continue
 abbrev pub owes_continue : HTTPVersion → List Header → Option ℕ → Bool → Bool
 owes_continue v headers n chunked =
     not (is_1_0 v) && (has_body n chunked && has_element (codes "Expect") (codes "100-continue") headers)
@@ -82,7 +84,7 @@ is_one_or_two_tokens (name ∷ version ∷ another ∷ more) = false
 abbrev pub is_protocol : List ℕ → Bool
 is_protocol text = is_one_or_two_tokens (parts slash text) && list_all (λ b. not (b == percent)) text
 
--- whether the head asks for an upgrade: in version 1.1, with upgrade in Connection and a protocol in Upgrade
+-- whether the head asks for an upgrade: in version 1.1 or later, with upgrade in Connection and a protocol in Upgrade
 abbrev pub asks_upgrade : HTTPVersion → List Header → Bool
 asks_upgrade v headers =
     not (is_1_0 v)
@@ -101,32 +103,35 @@ names_protocol headers protocol = has_element_that (codes "Upgrade") (is_protoco
 abbrev pub is_connect : Method → Bool
 is_connect method = bytes_eq (method_text method) (codes "CONNECT")
 
--- whether the head makes this the last request of the connection
+-- whether the head makes this the last request of the connection: Connection lists close, the version is 1.0 and
+-- Connection doesn't list keep-alive, or the method is CONNECT
 abbrev pub is_last : HTTPVersion → Method → List Header → Bool
 is_last v method headers =
     has_element (codes "Connection") (codes "close") headers
     || ((is_1_0 v && not (has_element (codes "Connection") (codes "keep-alive") headers)) || is_connect method)
 
--- whether the version, the host and the body framing are valid: the body has this length, or is chunked
+-- whether the major version is 1, the host is valid, and the body framing is valid, with the content length `n`, if
+-- any; `chunked` says whether the body is chunked
 pub record IsFramedRequest (v : HTTPVersion) (headers : List Header) (n : Option ℕ) (chunked : Bool) : Type 0 where
   pub version : v.0 ≡ 1
   pub host : HasValidHost v (values_of (codes "Host") headers)
   pub body : IsBodyFraming v (elements_of (codes "Content-Length") headers)
       (elements_of (codes "Transfer-Encoding") headers) n chunked
 
--- whether the head names unknown codings before a final chunked
+-- whether the head names unknown codings before a final chunked, in version 1.1 or later and without a content length
 abbrev pub NamesUnknownCodings : HTTPVersion → List Header → Type 0
 NamesUnknownCodings v headers =
     HasUnknownCodings v (elements_of (codes "Content-Length") headers)
     (elements_of (codes "Transfer-Encoding") headers)
 
--- whether the host is valid, and the body is framed, or would be if its codings were known
+-- whether the host is valid, and the head either is a framed request or names unknown codings before a final chunked
 abbrev pub IsValid : HTTPVersion → List Header → Type 0
 IsValid v headers =
     HasValidHost v (values_of (codes "Host") headers)
     × (NamesUnknownCodings v headers ⊎ ((n : Option ℕ) × (chunked : Bool) × IsFramedRequest v headers n chunked))
 
--- THE ORDER OF VALIDATION: the version, the host and the body framing, the codings, the expectations
+-- THE RESULT OF VALIDATION: whether the head is validated with this result. The checks come in this order: the version,
+-- the host and the body framing, the codings, the expectations.
 abbrev pub Validates : HTTPVersion → Method → List Header → Result HeadSummary HeadError → Type 0
 Validates v method headers (Err UnsupportedVersion) = v.0 ≢ 1
 Validates v method headers (Err InvalidHead) = (v.0 ≡ 1) × (IsValid v headers → ⊥)

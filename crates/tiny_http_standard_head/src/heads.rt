@@ -28,7 +28,8 @@ pub struct StandardHead {
     pub headers: Vec<Header>,
     /// What the head says about its body and the connection.
     pub summary: HeadSummary,
-    /// The length in bytes, including an empty line before the head, if there was one, and the empty line that ends it.
+    /// The length of the head in bytes, including the empty line that ends it, and an empty line before it if there was
+    /// one.
     pub length: usize,
 }
 
@@ -73,8 +74,8 @@ pub enum StandardRead {
     Refused(StandardFault),
     /// More bytes are needed.
     Unfinished {
-        /// Whether a byte of a head has come. A lone CR counts as one until an LF makes it an empty line, so only the
-        /// value of the last call counts.
+        /// Whether a byte of a head has come. A lone CR counts as one until an LF makes it an empty line, so a later
+        /// call may return `false` after `true`: use the value of the last call.
         has_begun: bool,
     },
 }
@@ -101,8 +102,8 @@ enum NoHead {
     Memory,
 }
 
-// Splits off the first line. Returns its text, without the CR LF, and the rest of the bytes. Fails if there is no LF,
-// or no CR before the first LF.
+// Splits off the first line. Returns its text, without the CR LF, and the rest of the bytes. Fails with `Open` if there
+// is no LF, and with `Bare` if the first LF has no CR before it.
 fn next_line(bytes: &[u8]) -> Result<(&[u8], &[u8]), NoLine>
     ensures some { IfOk result (λ r. Line bytes.now r.0.now r.1.now) }
     ensures none { IfErr result (λ why. HasNoLine why bytes.now) }
@@ -218,14 +219,15 @@ fn not_ended(bytes: &[u8], limit: usize, fault: StandardFault) -> StandardRead
     }
 }
 
-/// Parses and validates the head at the start of `bytes`. It may have at most `limit` bytes, including its empty lines,
-/// and `MOST_HEADERS` field lines. A line ends at its first LF, which needs a CR before it. One empty line before the
-/// request line is skipped.
+/// Parses and validates the head at the start of `bytes`. The head may have at most `limit` bytes, including its empty
+/// lines, and at most `MOST_HEADERS` field lines. A line ends at its first LF, which needs a CR before it. One empty
+/// line before the request line is skipped.
 ///
-/// The first malformed or surplus line is refused, whatever follows, and so are `limit` bytes without the end of a
-/// head. If `limit` is below 3, that second refusal can come even before the first byte of a head. If more bytes are
-/// needed, call again with these bytes and the new ones. Each call starts over, so for a head that comes byte by byte
-/// use `source_heads::read_head_from`. Fails if memory is refused, which happens only if the request line is valid.
+/// The head is refused at its first malformed or surplus line, whatever follows, and once `limit` bytes have come
+/// without the end of the head. If `limit` is below 3, the refusal at `limit` bytes can come even before the first byte
+/// of a head. If more bytes are needed, call again with these bytes and the new ones. Each call starts over, so for a
+/// head that comes byte by byte use `source_heads::read_head_from`. Fails if memory is refused; memory is needed only
+/// if the request line is valid.
 pub fn read_head(alloc: Global, bytes: &[u8], limit: usize) -> Result<StandardRead, AllocError>
     ensures reads { IfOk result (λ read. Reads limit bytes.now read) }
     ensures begun { OnErr result (HasGoodRequestLine (take limit bytes.now)) }

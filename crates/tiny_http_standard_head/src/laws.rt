@@ -38,7 +38,7 @@ pub fn one_validation()
 {}
 
 /// The first bytes from a client have exactly one reading: a complete head with the result of its validation, a
-/// malformed or surplus line, or a line that hasn't ended.
+/// malformed or surplus line, or a line that hasn't ended. For any limit, `heads::read_head` has at most one result.
 pub fn one_reading()
     ensures some { (bytes : List ℕ) → (r : Reading) × AreReadAs bytes r }
     ensures read { (bytes : List ℕ) (r r' : Reading) → AreReadAs bytes r → AreReadAs bytes r' → r ≡ r' }

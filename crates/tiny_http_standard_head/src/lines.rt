@@ -67,7 +67,7 @@ fn is_asterisk_form(method: &[u8], target: &[u8]) -> bool
     is(target, "*") && is(method, "OPTIONS")
 }
 
-// Returns whether all bytes are visible.
+// Returns whether all bytes are visible ASCII characters, 33 to 126.
 fn are_visible(target: &[u8]) -> bool
     ensures { result ≡ list_all is_ascii_graphic target.now }
 {
@@ -110,10 +110,11 @@ fn split_request_line(text: &[u8]) -> Option<(&[u8], &[u8], HTTPVersion)>
 /// Parses a request line: a token, a space, the target, a space and the version (RFC 9112, section 3). Returns `None`
 /// for any other text. Fails if the text is a request line and memory is refused.
 ///
-/// The target has only bytes 33 to 126. For `CONNECT` it is a host with a port. Otherwise it begins with `/`, or is `*`
-/// for `OPTIONS`, or begins with `http://` or `https://`, compared case-insensitively, followed up to the next `/` or
-/// `?` by a nonempty host, with or without a port (`hosts::is_host_with_port`). The version is `HTTP/`, a digit, a
-/// point and a digit; `validation::validate` checks whether it is supported.
+/// The target has only bytes 33 to 126. For `CONNECT` it is a host and a port from 1 to 65535 (`hosts::is_authority`).
+/// Otherwise it begins with `/`, or is `*` for `OPTIONS`, or begins with `http://` or `https://`, compared
+/// case-insensitively, followed up to the next `/` or `?` by a nonempty host, with or without a port
+/// (`hosts::is_host_with_port`). The version is `HTTP/`, a digit, a point and a digit; `validation::validate` checks
+/// whether it is supported.
 pub fn parse_request_line(
     alloc: Global,
     text: &[u8],
@@ -191,12 +192,13 @@ fn split_field_line(text: &[u8]) -> Option<(&[u8], &[u8])>
     Some((field, value))
 }
 
-/// Parses a field line: a token, a colon directly after it, and the value, stripped of spaces and tabs (RFC 9112,
-/// section 5).
+/// Parses a field line: a token, a colon directly after it, and the value, stripped of spaces and tabs at both ends
+/// (RFC 9112, section 5).
 ///
 /// The value has no byte 0 to 8, 10 to 31 or 127. A byte above 127 is percent-encoded in upper case, so the byte 233
-/// and the three bytes `%E9` give the same text. `Host` and `Transfer-Encoding` must not contain such a byte, whatever
-/// the version. Returns `None` for any other text. Fails if the text is a field line and memory is refused.
+/// and the three bytes `%E9` result in the same value. `Host` and `Transfer-Encoding` must not contain a byte above
+/// 127, whatever the version. Returns `None` if the text isn't such a field line. Fails if the text is one and memory
+/// is refused.
 pub fn parse_field_line(alloc: Global, text: &[u8]) -> Result<Option<Header>, AllocError>
     ensures some { IfOk result (λ found. IfSome found (λ h. ReadsFieldLine text.now h)) }
     ensures none { result ≡ Ok None → IsNoFieldLine text.now }

@@ -45,7 +45,8 @@ fn text_of(line: &[u8]) -> Option<&[u8]>
     Some(&line[..n - 1])
 }
 
-// Parses a request line; returns `None` for an empty line.
+// Parses a line, given without its LF, as a request line; returns `None` for an empty line. Refuses a malformed line
+// with `BadLine`. Fails with `Memory` if memory is refused.
 fn request_in(
     alloc: Global,
     line: &[u8],
@@ -65,7 +66,8 @@ fn request_in(
     }
 }
 
-// Parses a field line; returns `None` for the empty line.
+// Parses a line, given without its LF, as a field line; returns `None` for the empty line. Refuses a malformed line
+// with `BadLine`. Fails with `Memory` if memory is refused.
 fn field_in(alloc: Global, line: &[u8]) -> Result<Option<Header>, NoHead>
     ensures { FieldIn line.now result }
 {
@@ -82,8 +84,8 @@ fn field_in(alloc: Global, line: &[u8]) -> Result<Option<Header>, NoHead>
     }
 }
 
-// Converts the reason why no line was found. `too_long` is the fault of a line that is too long; `later` says whether a
-// line of the head came before.
+// Converts the reason why no line was found to the reason why no head was read. `too_long` is the fault to report if
+// the limit was reached; `later` says whether the request line was already read.
 fn no_head(why: NoLine, too_long: StandardFault, later: bool) -> NoHead
     ensures { result ≡ no_head why too_long later }
 {
@@ -96,7 +98,8 @@ fn no_head(why: NoLine, too_long: StandardFault, later: bool) -> NoHead
     }
 }
 
-// Reads a request line or an empty line, within `left` bytes, and subtracts its bytes from `left`.
+// Reads a request line or an empty line, within `left` bytes including its LF, and subtracts its length from `left`.
+// Returns `None` for the empty line.
 fn read_request<R: ReadDevice>(
     alloc: Global,
     source: &mut Source<R>,
@@ -128,7 +131,8 @@ fn read_request<R: ReadDevice>(
     }
 }
 
-// Reads a field line or the empty line, within `left` bytes, and subtracts its bytes from `left`.
+// Reads a field line or the empty line, within `left` bytes including its LF, and subtracts its length from `left`.
+// Returns `None` for the empty line.
 fn read_field<R: ReadDevice>(
     alloc: Global,
     source: &mut Source<R>,
@@ -233,10 +237,10 @@ fn without_head(why: NoHead) -> Result<StandardRead, AllocError>
 }
 
 /// Reads the next head of a source, with at most `limit` bytes and `MOST_HEADERS` field lines. The result is that of
-/// `heads::read_head` on all bytes still to come from the source. No byte after the head is consumed, and none is read
-/// ahead beyond one call of the reader. A line that is whole in the buffer is parsed in place. A malformed or surplus
-/// line is refused as soon as its LF has come. `Unfinished` means that the source has stopped, and is over. Fails if
-/// memory is refused; the source may then be in the middle of the head.
+/// `heads::read_head` on all bytes still to come from the source. No byte after the head is consumed; one call to the
+/// reader may have buffered some. A line that is whole in the buffer is parsed in place. A malformed or surplus line is
+/// refused as soon as its LF has come. `Unfinished` means that the source stopped before the end of the head, and is
+/// over. Fails if memory is refused. After a failure or a refusal, the source may be in the middle of the head.
 pub fn read_head_from<R: ReadDevice>(
     alloc: Global,
     source: &mut Source<R>,

@@ -41,14 +41,15 @@ fn find_line_feed(bytes: &[u8]) -> Option<usize>
     memchr(b'\n', bytes)
 }
 
-// Returns the bytes within the limit.
+// Returns the first `limit` bytes, or all bytes if there are fewer.
 fn within(bytes: &[u8], limit: usize) -> &[u8]
     ensures { result.now ≡ take limit bytes.now }
 {
     &bytes[..bytes.len().min(limit)]
 }
 
-// Reads and consumes a line, within `limit` bytes including its LF, of which only a part is in the buffer.
+// Reads and consumes a line of at most `limit` bytes, including its LF. The first `limit` buffered bytes, or all if
+// there are fewer, must contain no LF.
 fn take_line<R: ReadDevice>(
     alloc: Global,
     source: &mut Source<R>,
@@ -96,7 +97,7 @@ fn take_line<R: ReadDevice>(
 }
 
 /// Finds the next line, within `limit` bytes including its LF. A line that is whole in the buffer stays there, to be
-/// parsed in place without an allocation. Any other line is consumed.
+/// parsed in place without an allocation. Any other line is read and consumed, with its LF.
 pub(crate) fn find_line<R: ReadDevice>(
     alloc: Global,
     source: &mut Source<R>,

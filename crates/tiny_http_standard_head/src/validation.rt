@@ -57,7 +57,8 @@ pub enum HeadError {
     /// Other transfer codings come before a final `chunked`, in version 1.1 or later and without a content length: 501
     /// (RFC 9112, section 6.1).
     UnknownCoding,
-    /// An element of `Expect` is neither `100-continue` nor empty: 417 (RFC 9110, section 10.1.1).
+    /// An element of `Expect` is neither `100-continue` nor empty, whatever the version: 417 (RFC 9110, section
+    /// 10.1.1).
     UnknownExpectation,
 }
 
@@ -112,7 +113,7 @@ fn has_no_percent(text: &[u8]) -> bool
     text.iter().all(|b| *b != b'%')
 }
 
-// Returns whether the text is a protocol name, with or without a version.
+// Returns whether the text is a protocol name, with or without a version, and has no percent sign.
 fn is_protocol(text: &[u8]) -> bool
     ensures { result ≡ is_protocol text.now }
 {
@@ -139,7 +140,7 @@ fn is_zero(value: &[u8]) -> bool
     is(value, "0") || is(value, "0.") || is(value, "0.0") || is(value, "0.00") || is(value, "0.000")
 }
 
-// Returns whether the first weight among the parameters is zero.
+// Returns whether the parameters have a weight, and the first one is zero.
 fn has_zero_weight(parameters: &[u8]) -> bool
     ensures { result ≡ has_zero_weight (between_semicolons parameters.now) }
 {
@@ -237,7 +238,7 @@ fn coding_after(was: Codings, coding: &[u8]) -> Codings
     }
 }
 
-// Returns the state of the codings after those of one more value.
+// Returns the state of the codings after the elements of one more value.
 fn codings_in(value: &str, was: Codings) -> Codings
     ensures { result ≡ codings_on was (between_commas value.now) }
 {
@@ -356,7 +357,8 @@ pub fn names_protocol(headers: &[Header], protocol: &str) -> bool
 }
 
 /// Returns whether the `TE` fields of a request, which form one list, ask for chunks (RFC 9110, sections 5.3, 5.6.1.2
-/// and 10.1.4). An element asks for chunks if its coding is `chunked`, case-insensitively, and its weight isn't zero.
+/// and 10.1.4). An element asks for chunks if its coding is `chunked`, case-insensitively, and it has no weight or one
+/// that isn't zero.
 ///
 /// The weight is the first parameter that begins with `q=` or `Q=` (RFC 9110, section 12.4.2). Zero is `0`, `0.`,
 /// `0.0`, `0.00` or `0.000`; any other value, even one that isn't a number, asks for chunks. All other parameters and

@@ -138,8 +138,8 @@ impl ShortBytes {
 impl TextBytes {
     ghost use Rattle.tiny_http_text.specs.TextBytes.{text_bytes};
 
-    // Copies the bytes: inline if there are at most 30, and otherwise into an allocation. Fails only if that is
-    // refused.
+    // Copies the bytes: inline if there are at most 30, and otherwise into an allocation. Fails only if the allocation
+    // is refused.
     fn copied(alloc: Global, bytes: &[u8]) -> Result<TextBytes, AllocError>
         ensures text { IfOk result (λ t. text_bytes t ≡ bytes.now) }
         ensures short { length bytes.now ≤ 30 → IsOk result }
@@ -174,7 +174,7 @@ impl TextBytes {
 impl AsciiString {
     ghost use Rattle.tiny_http_text.specs.FromAsciiError.{refused_bytes, bad_place};
 
-    /// Makes a string from bytes that are all below 128. For other bytes it fails, and the error hands them back.
+    /// Makes a string from bytes that are all below 128. For other bytes it fails, and the error holds them.
     pub fn from_ascii(bytes: Vec<u8>) -> Result<AsciiString, FromAsciiError>
         ensures ok { IfOk result (λ s. s ≡ bytes.items) }
         ensures succeeds { IsOk result ↔ IsAscii bytes.items }

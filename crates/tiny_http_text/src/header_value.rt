@@ -13,8 +13,8 @@ use std::alloc::{AllocError, Global};
 // The quality, in thousandths, of an element that has no readable quality.
 const DEFAULT_QUALITY: u32 = 1000;
 
-// Parses decimal digits as a number below 2^32. Returns `None` for any other text, also for a leading plus sign, which
-// `str::parse` accepts and a quality can't have.
+// Parses decimal digits as a number below 2^32. Returns `None` for any other text, even one with a leading plus sign,
+// which `str::parse` accepts and a quality can't have.
 fn number(digits: &str) -> Option<u32>
     ensures { SomeIff result (IsNumeral 10 digits.now × (digits_value 10 digits.now < 2 ^ 32))
         (digits_value 10 digits.now) }

@@ -46,7 +46,7 @@ pub record IsNewTurnQueue {T W C : Type 0} (item : T) (queue : TurnQueueView (Bo
   pub wants_room : queue.wants_room ≡ false
 
 module _ {W : Type 0} where
-  -- whether every other number waits as it did before, or still doesn't wait
+  -- whether each number other than this one waits as it did before, or still doesn't wait
   abbrev pub OthersStay : ℕ → List (ℕ × W) → List (ℕ × W) → Type 0
   OthersStay number old new = (n : ℕ) → n ≢ number → waker new n ≡ waker old n
 

@@ -139,7 +139,7 @@ impl<T: Drop> MessagesQueue<T> {
     }
 }
 
-// Here, too, no call can lose a value.
+// As above, without `T: Drop` no call can lose a value.
 impl<T> MessagesQueue<T> {
     /// Adds a value at the back, and wakes a waiting thread. If memory is refused, the error hands back the value.
     pub fn push<R: Wait>(&self, rt: &R, value: T) -> Result<(), T>

@@ -12,10 +12,10 @@ use std::thread::Threads;
 use std::time::{Clock, Duration};
 use std::{io, thread};
 
-/// The number of workers that a pool keeps even if they are idle (as in tiny_http).
+/// The number of workers that a pool keeps even if they are idle (as in the Rust crate).
 pub const MIN_THREADS: usize = 4;
 
-/// How long any other worker may be idle before it ends, in milliseconds (as in tiny_http).
+/// How long a worker beyond `MIN_THREADS` may be idle before it ends, in milliseconds (as in the Rust crate).
 pub const IDLE_MILLIS: u64 = 5000;
 
 /// A job for a worker.
@@ -224,8 +224,7 @@ impl<J: Job + Drop> Sharing<J> {
         unreachable!()
     }
 
-    // Waits to be woken, for at most 5,000 ms if more than `MIN_THREADS` workers run. Returns whether that time is
-    // over.
+    // Waits to be woken, for at most 5000 ms if more than `MIN_THREADS` workers run. Returns whether that time is over.
     fn wait<'a, R: Wait + Clock>(
         &self,
         rt: &R,
@@ -258,7 +257,7 @@ fn work_unless<J: Job + Drop, R: Wait + Clock + Drop>(
 }
 
 /// A pool of workers that run jobs: four, and one more for each job for which no idle worker is left. A worker beyond
-/// the four ends once it has been idle for 5,000 ms. Dropping the pool closes it: its workers run the waiting jobs, and
+/// the four ends once it has been idle for 5000 ms. Dropping the pool closes it: its workers run the waiting jobs, and
 /// end. No contract here states what a call did to the pool.
 pub struct TaskPool<J: Drop, R: Wait + Drop> {
     rt: R,

@@ -440,8 +440,8 @@ impl<T: Drop, R: Wait + Drop> Turn<T, R> {
         })
     }
 
-    /// Issues the next number of this queue, or returns `None` once it was closed. Fails if memory is refused, or no
-    /// number is left.
+    /// Issues the next number of this queue, or returns `None` once the queue was closed. Fails if memory is refused,
+    /// or no number is left.
     pub fn new_unless_closed(
         rt: R,
         alloc: Global,

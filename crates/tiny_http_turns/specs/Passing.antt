@@ -41,8 +41,8 @@ WritesTexts {T = T} {N = N} {O = O} writes finishes (suc n) here text there =
     × WritesText writes next left.items there
 
 -- A TURN IS PASSED ON: this text and the texts that were left for the numbers directly after it are written, and each
--- number is finished after its text, up to the first number without a text. It also ends after 2^64 further numbers, of
--- which the last is then still held.
+-- number is finished after its text, up to the first number without a text. Passing on also ends after 2^64 further
+-- numbers, the last of which is then still held.
 pub record PassesOn {T N O : Type 0} (writes : Writes T O) (finishes : FinishesNumber T N) (here : Holds T N O)
     (text : List ℕ) (there : Holds T N O) : Type 0 where
   pub passed : ℕ

@@ -44,7 +44,7 @@ AreOpenOrLeft (Held ∷ marks) = ⊥
 AreOpenOrLeft (Left text ∷ marks) = AreOpenOrLeft marks
 AreOpenOrLeft (Finished ∷ marks) = ⊥
 
--- whether finished numbers come first, of the others only the first may be held, and no text waits for that one
+-- whether finished numbers come first, of the others only the first may be held, and no text is left for that first one
 abbrev pub AreInShape : List Mark → Type 0
 AreInShape [] = Unit {0}
 AreInShape (Open ∷ marks) = AreOpenOrLeft marks
@@ -60,12 +60,12 @@ is_any_held (Held ∷ marks) = true
 is_any_held (Left text ∷ marks) = is_any_held marks
 is_any_held (Finished ∷ marks) = is_any_held marks
 
--- whether the marks are in shape, and the item is stored exactly if no number is held
+-- whether the marks are in shape, and the item is stored if, and only if, no number is held
 pub record IsInOrder {T : Type 0} (turns : TurnsState T) : Type 0 where
   pub shape : AreInShape turns.marks
   pub rests : is_some turns.resting ≡ not (is_any_held turns.marks)
 
--- a call of `Turns`, as a step
+-- a call to a `Turns`, as a step
 pub data TurnStep : Type 0 where
   Issue : TurnStep
   Take : (number : ℕ) → TurnStep
@@ -110,7 +110,8 @@ put_back_at (Some Held) k marks = (Opened, slice_set marks k Open)
 put_back_at (Some (Left text)) k marks = (Strange, marks)
 put_back_at (Some Finished) k marks = (Strange, marks)
 
--- the outcome when the turn comes to number k: if a text was left for it, it is held, and the text comes out
+-- the outcome when the turn comes to number k: if a text was left for it, it is held, and the text comes out; otherwise
+-- no mark changes, and the step is `Passed`
 abbrev pub pass_to : Option Mark → ℕ → List Mark → TurnOutcome
 pass_to None k marks = (Passed, marks)
 pass_to (Some Open) k marks = (Passed, marks)

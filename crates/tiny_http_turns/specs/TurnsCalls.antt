@@ -14,34 +14,37 @@ module _ {T : Type 0} where
   abbrev pub new_turns : T → TurnsState T
   new_turns item = record { marks = []; resting = Some item }
 
-  -- whether `take` returned the item if it holds the number now, and otherwise changed nothing
+  -- the effect of `take`, according to what the step reports. `Taken`: the item was returned, and is no longer stored.
+  -- `Strange`: `None` was returned, and nothing has changed.
   abbrev pub TakesTurn : TurnAnswer → Option T → Option T → Option T → Type 0
   TakesTurn Taken old result new = (result ≡ old) × IsSome result × (new ≡ None)
   TakesTurn Strange old result new = (result ≡ None) × (new ≡ old)
   TakesTurn _ old result new = ⊥
 
-  -- whether `put_back` stored the item if the number is open again, and otherwise returned it and changed nothing
+  -- the effect of `put_back`, according to what the step reports. `Opened`: the item was stored. `Strange`: the item
+  -- was returned, and nothing has changed.
   abbrev pub PutsBack : {U : Type 0} → TurnAnswer → T → Option T → Result U T → Option T → Type 0
   PutsBack Opened item old (Ok done) new = new ≡ Some item
   PutsBack Strange item old (Err back) new = (back ≡ item) × (new ≡ old)
   PutsBack _ item old result new = ⊥
 
-  -- whether `finish`, as the step reports, stored the item, returned it with the text left for the next number, or
-  -- returned it alone
+  -- the effect of `finish`, according to what the step reports. `Passed`: the item was stored. `Goes`: the item was
+  -- returned with the text left for the next number. `Strange`: the item was returned, and nothing has changed.
   abbrev pub Finishes : TurnAnswer → T → Option T → Finishing T → Option T → Type 0
   Finishes Passed item old IsPassed new = new ≡ Some item
   Finishes (Goes number text) item old (FinishGo on with) new = (on ≡ item) × (with.items ≡ text) × (new ≡ None)
   Finishes Strange item old (FinishStrange back) new = (back ≡ item) × (new ≡ old)
   Finishes _ item old result new = ⊥
 
-  -- whether `leave`, as the step reports, kept the text, returned it with the item, or returned it alone
+  -- the effect of `leave`, according to what the step reports. `Waits`: the text was kept. `Goes`: the text was
+  -- returned with the item, which is no longer stored. `Strange`: the text was returned, and nothing has changed.
   abbrev pub LeavesTurn : TurnAnswer → Option T → Leaving T → Option T → Type 0
   LeavesTurn Waits old IsLeft new = new ≡ old
   LeavesTurn (Goes number text) old (LeaveGo item back) new = (old ≡ Some item) × (back.items ≡ text) × (new ≡ None)
   LeavesTurn Strange old (LeaveStrange back) new = new ≡ old
   LeavesTurn _ old result new = ⊥
 
-  -- whether the text that `leave` returned, if it did, is the one that it was given
+  -- whether the text that `leave` returned, if it returned one, is the one that it was given
   abbrev pub GivesBack : Leaving T → Vec ℕ → Type 0
   GivesBack IsLeft given = Unit {0}
   GivesBack (LeaveGo item back) given = back ≡ given

@@ -51,7 +51,7 @@ texts_out n [] marks = []
 texts_out n (step ∷ steps) marks =
     text_out n (turn_answer step marks) ++ texts_out n steps (marks_after_step step marks)
 
--- the text that one step leaves for number n, unless the step is refused
+-- the text of a `Leave` step for number n, unless the step is `Strange`; none for any other step
 abbrev pub text_left : ℕ → TurnStep → TurnAnswer → List (List ℕ)
 text_left n Issue texts = []
 text_left n (Take k) texts = []

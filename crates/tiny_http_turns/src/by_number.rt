@@ -15,7 +15,7 @@ use std::mem;
 /// entry for each number.
 #[derive(Drop)]
 pub struct ByNumber<T> {
-    // The entries from `passed` on. The first one, if there is one, has a value.
+    // The entries from number `passed` on. The first one, if there is one, has a value.
     kept: VecDeque<Option<T>>,
     // No number below this one has a value.
     passed: u64,
@@ -111,7 +111,7 @@ impl<T: Drop> ByNumber<T> {
 }
 
 // Replaces the value at this index with `value`, or removes it if `value` is `None`, and returns the old value. If
-// there is no value at this index, it returns `None` and nothing changes.
+// there is no value at this index, it returns `None`, nothing changes, and the new value is dropped.
 #[inline(always)]
 fn exchange<T: Drop>(kept: &mut VecDeque<Option<T>>, at: usize, value: Option<T>) -> Option<T>
     ensures some { IfSome result (λ was. (slice_get kept.old.items at ≡ Some (Some was))

@@ -7,7 +7,7 @@ ghost use Rattle.tiny_http_turns.specs.TurnsLaw.{text_waiting};
 /// What holds for every list of steps of a new `Turns`.
 /// - `order`: numbers are first held in the order 0, 1, 2 and so on.
 /// - `one_at_a_time`: no number is held before every earlier one is finished.
-/// - `once`: the texts that came out for a number, then the one that still waits, are those left for it, in order.
+/// - `once`: the texts that came out for a number, then any that still waits, are those left for it, in order.
 /// - `held`: a text comes out only in a step that newly holds the number for which the text was left.
 /// - `in_turn`: once all earlier numbers are finished, each text left for a number has come out.
 pub fn turns_pass_in_order()

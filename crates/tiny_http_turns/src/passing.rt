@@ -19,13 +19,15 @@ pub trait HeldTurn<N, O> {
     fn write_text(&mut self, output: &mut O, text: &[u8])
         ensures { writes self.old output.old text.now self.new output.new };
 
-    /// Finishes the number. If a text was left for the next number, holds that number and returns the text.
+    /// Finishes the number. If a text was left for the next number, holds that number and returns the text; otherwise
+    /// returns `None`.
     fn finish(&mut self, numbers: &mut N) -> Option<Vec<u8>>
         ensures { finishes self.old numbers.old result self.new numbers.new };
 }
 
 /// Writes the text of a held number and finishes that number, then does the same for each number directly after it for
-/// which a text was left. It allocates nothing itself. It stops once it has written the texts of 2^64 further numbers.
+/// which a text was left. It allocates nothing itself. It stops once it has written the texts of 2^64 further numbers,
+/// the last of which is then still held.
 pub fn pass_on<N, O, T: HeldTurn<N, O>>(
     turn: &mut T,
     numbers: &mut N,

@@ -11,11 +11,11 @@ use httparse::is_header_value_token;
 pub(crate) enum Size {
     /// Only blanks: bytes 9 and 32.
     Blank,
-    /// Perhaps blanks, then digits: their value, and how many there are.
+    /// Optional blanks, then digits: their value and their number.
     Digits(u64, u8),
-    /// Perhaps blanks, then digits with this value, then blanks.
+    /// Optional blanks, then digits with this value, then blanks.
     Behind(u64),
-    /// Perhaps blanks, then digits with this value, perhaps blanks, and then a `;` and any bytes.
+    /// Optional blanks, digits with this value, optional blanks, a `;`, and any bytes.
     Extension(u64),
     /// Not a chunk size, whatever follows.
     Wrong,

@@ -3,7 +3,7 @@ use std::sync::atomic::{AtomicBool, Ordering};
 use std::test::Fail;
 use std::thread;
 
-// A pop that restarted its timeout at each wakeup would wait as long as it is woken.
+// A pop that restarted its timeout at each wakeup would wait for as long as it is woken.
 #[test]
 fn a_pop_that_is_woken_for_nothing_comes_back(rt: HostRuntime) -> Result<(), Fail> {
     let alloc = rt.alloc();
@@ -29,7 +29,7 @@ fn a_pop_that_is_woken_for_nothing_comes_back(rt: HostRuntime) -> Result<(), Fai
     Ok(())
 }
 
-// A try that gave up because the lock is held would miss the value.
+// A `try_pop` that gave up because the lock is held would miss the value.
 #[test]
 fn a_try_waits_for_the_lock(rt: HostRuntime) -> Result<(), Fail> {
     let queue: Arc<MessagesQueue<u8>> = MessagesQueue::with_capacity(rt.alloc(), 8)?;
