@@ -98,7 +98,8 @@ MatchesAccount k s (Asks r) a =
     × (maker k s.stage ≡ a.by)
     × (written_in s.stage ≡ a.written)
     × (s.continued ≡ (if r.framing.owes_continue then a.asked else None))
-MatchesAccount k s (Refuses refusal manner no_body last) a = (s.stage ≡ ByServer) × (a ≡ untouched) × (s.continued ≡ None)
+MatchesAccount k s (Refuses refusal manner no_body last) a = (s.stage ≡ ByServer)
+    × (a ≡ untouched) × (s.continued ≡ None)
 
 -- ---- turns
 

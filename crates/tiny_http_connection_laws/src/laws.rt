@@ -17,7 +17,8 @@ ghost use Rattle.tiny_http_client.specs.SentTexts.{methods, whole_answers, remai
 ghost use Rattle.tiny_http_response.specs.Readable.{IsReadable};
 ghost use Rattle.tiny_http_connection_laws.specs.InShort.{handed, requests_from, ReadsInOrder, sent, segment_of};
 ghost use Rattle.tiny_http_connection_laws.specs.InShort.{AreOfOneHead, maker, IsAmong};
-ghost use Rattle.tiny_http_connection_laws.specs.Accounts.{Finished, account, MatchesAccount, IsThrough, IsHanded, takes};
+ghost use Rattle.tiny_http_connection_laws.specs.Accounts.{Finished, account, MatchesAccount, IsThrough, IsHanded};
+ghost use Rattle.tiny_http_connection_laws.specs.Accounts.{takes};
 ghost use Rattle.tiny_http_connection_laws.specs.Accounts.{waits_its_turn};
 ghost use Rattle.tiny_http_connection_laws.specs.Accounts.{is_done_early, IsTaken, is_ask, is_read, HasEnd};
 ghost use Rattle.tiny_http_connection_laws.specs.Accounts.{OneEndsRequests, OneStops};
