@@ -27,7 +27,8 @@ pub fn step_of(alloc: Global, line: &str) -> Result<Option<Step<ScriptData>>, Al
     }
 }
 
-/// Builds a 200 response that borrows its data. If a length is given, the response is not sent in chunks.
+/// Builds a 200 response that borrows its data. If a length is given, the response is sent in chunks only
+/// if the request's `TE` asks for them.
 pub fn lent(alloc: Global, data: &mut Watched, length: Option<usize>) -> Response<&mut Watched> {
     let answer = Response::empty(alloc, StatusCode(200)).with_data(data, length);
     match length {

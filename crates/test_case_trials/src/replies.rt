@@ -15,8 +15,8 @@ fn add_length(line: &mut String, length: Option<usize>) -> Result<(), AllocError
     }
 }
 
-/// Formats the reply that returns the request with this number: the line of a script, and then each header field in
-/// brackets.
+/// Formats the reply that hands out the request with this number: the line that `ReplyLine` prints, and then each
+/// header field in brackets.
 pub fn handed_line(
     alloc: Global,
     (number, method): (&str, &Method),
@@ -49,7 +49,7 @@ pub fn given_line(alloc: Global, bytes: &[u8]) -> Result<Vec<u8>, AllocError> {
     Ok(line)
 }
 
-/// Formats a reply of `run_with`.
+/// Formats the reply to a step of a connection. A request's header fields and a body's bytes are included as they are.
 pub fn reply_line(alloc: Global, reply: &Reply) -> Result<Vec<u8>, AllocError> {
     match reply {
         Reply::Handed(number, head) => {

@@ -1,5 +1,5 @@
-//! A plain reading of what a client sends, under the lenient profile. It reads all bytes at once, line by line, without
-//! a buffer. The requests of connections are compared with those that it finds.
+//! A plain reading of what a client sends, under `Lenient`. It reads all bytes at once, line by line, without a buffer.
+//! The requests of connections are compared with those that it finds.
 use crate::parts::{RequestWords, SHORT, add_header, decimal};
 use std::alloc::{AllocError, Global};
 
@@ -184,8 +184,8 @@ impl<'a> PlainHead<'a> {
     }
 }
 
-/// Returns the reply lines of the first `most` requests, or fewer, that these bytes contain under the lenient profile
-/// if each request is dropped before the next is received.
+/// Returns the reply lines of the first `most` requests, or fewer, that these bytes contain under `Lenient` if each
+/// request is dropped before the next is received.
 pub fn plain_lines(alloc: Global, bytes: &[u8], most: usize) -> Result<Vec<Vec<u8>>, AllocError> {
     let mut lines = Vec::new(alloc);
     let mut rest = bytes;

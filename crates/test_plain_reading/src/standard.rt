@@ -1,7 +1,7 @@
-//! A plain reading of what a client sends, under the standard profile. It reads all bytes at once, line by line,
-//! without a buffer. The requests of connections are compared with those that it finds. It is written from
-//! docs/RULES.md, and shares no code with the server. It does not limit the length of a head, since the clients whose
-//! bytes it reads send fewer than 65,536 bytes.
+//! A plain reading of what a client sends, under `Standard`. It reads all bytes at once, line by line, without a
+//! buffer. The requests of connections are compared with those that it finds. It is written from docs/RULES.md, and
+//! shares no code with the server. It does not limit the length of a head, since the clients whose bytes it reads send
+//! fewer than 65,536 bytes.
 use crate::parts::{RequestWords, SHORT, add_header, decimal};
 use std::alloc::{AllocError, Global};
 use std::fmt::Write;
@@ -384,8 +384,8 @@ impl<'a> StandardHead<'a> {
     }
 }
 
-/// Returns the reply lines of the first `most` requests, or fewer, that these bytes contain under the standard profile
-/// if each request is dropped before the next is received.
+/// Returns the reply lines of the first `most` requests, or fewer, that these bytes contain under `Standard` if each
+/// request is dropped before the next is received.
 pub fn standard_lines(
     alloc: Global,
     bytes: &[u8],

@@ -22,8 +22,8 @@ use tiny_http_wire::response::Response;
 // Maximum number of reads of a body.
 const READS: u32 = 100_000;
 
-/// Returns the current date as a server sends it: that of Unix second 0 if the clock can't be read, or if its time is
-/// out of range.
+/// Returns the current date, as a server would send it, or the date of Unix second 0 if the clock can't be read or its
+/// time is out of range.
 pub fn date_now<R: Clock>(rt: &R) -> HttpDate {
     let seconds = rt.since_1970().map_or(0, |time| time.as_secs());
     match HttpDate::from_unix_secs(seconds) {
@@ -101,8 +101,8 @@ fn respond_empty<D: ReadDevice + Drop, W: WriteDevice + Drop, R: Wait + Clock + 
     request.respond(response, date_now(rt))
 }
 
-// Responds with this status and `count` bytes. If `is_sized`, the response is built with their content length and is
-// never sent in chunks; otherwise it is built without a content length.
+// Responds with this status and `count` bytes. If `is_sized`, the response states their length, and is sent in chunks
+// only if the request's `TE` asks for them; otherwise its length is unknown.
 fn respond_bytes<D: ReadDevice + Drop, W: WriteDevice + Drop, R: Wait + Clock + Drop>(
     rt: &R,
     alloc: Global,

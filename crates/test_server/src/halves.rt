@@ -109,7 +109,8 @@ fn a_half_closes_its_direction_alone(rt: HostRuntime) {
     assert_halves_close_alone(&rt, rt.alloc());
 }
 
-// Asserts that a connection can be written after its reading half is dropped.
+// Asserts that once the reading half of a connection is dropped, the peer can't write to the connection, but the
+// writing half still can.
 fn assert_reading_half_closes_alone<R: Net + Abort>(rt: &R, alloc: Global) {
     let (ours, mut theirs) = UnixStream::pair(rt).expect(rt, "a pair");
     let (reader, mut writer) = halves_of(rt, alloc, ours);

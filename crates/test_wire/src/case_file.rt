@@ -413,7 +413,8 @@ fn cuts_that_differ(rt: HostRuntime) -> Result<(), Fail> {
     Ok(())
 }
 
-// A client's bytes, the reply to an `ask`, and its difference from a plain reading under the lenient profile.
+// A client's bytes, the reply to an `ask`, and how that reply differs from what the independent reader
+// `test_plain_reading` finds in the bytes under `Lenient`.
 const PLAIN: &[[&str; 3]] = &[
     ["GET / HTTP/1.1\r\n\r\n", "handed 0 GET / 1.1 0 -", ""],
     [
@@ -445,7 +446,8 @@ const PLAIN: &[[&str; 3]] = &[
     ],
 ];
 
-// A client's bytes, the reply to an `ask`, and its difference from a plain reading under the standard profile.
+// A client's bytes, the reply to an `ask`, and how that reply differs from what the independent reader
+// `test_plain_reading` finds in the bytes under `Standard`.
 const PLAIN_STANDARD: &[[&str; 3]] = &[
     [
         "GET / HTTP/1.2\r\nHost: a\r\n\r\n",

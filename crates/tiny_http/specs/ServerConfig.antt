@@ -1,4 +1,4 @@
--- What clauses see of copies of a server's settings.
+-- The parts of copies of a server's settings that contracts refer to.
 use Rattle.std.specs.Prelude.{◌≡◌, Option, Some, None, ⊤}
 use Rattle.tiny_http_socket.specs.Connection.{IsCopyOf}
 use Rattle.tiny_http.specs.declared.server.SslConfig.{SslConfig}

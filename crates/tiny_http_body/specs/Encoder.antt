@@ -1,4 +1,4 @@
--- What clauses see of an `Encoder`.
+-- The parts of an `Encoder` that contracts refer to.
 use Rattle.std.specs.Prelude.{◌≡◌, ℕ, ◌<◌, ◌≤◌, Bool, false, List, ◌++◌, length, take, Result, Ok, Err, IfErr, IsErr}
 use Rattle.std.specs.IoError.{error_kind}
 use Rattle.std.specs.declared.io.Error.{Error}
@@ -6,8 +6,8 @@ use Rattle.std.specs.declared.io.ErrorKind.TheVariants.{BrokenPipe}
 use Rattle.tiny_http_io.specs.Device.{Sink, Took, Failed}
 use Rattle.tiny_http_body.specs.ChunkedPrinting.{full_chunks, left_over}
 
--- What clauses see of an `Encoder`: the inner writer, what the writer states, the bytes of an unfinished chunk, and
--- whether the writer has failed.
+-- The parts of an `Encoder` that contracts refer to: the inner writer, what the writer states, the bytes of an
+-- unfinished chunk, and whether the writer has failed.
 pub record EncoderState (W : Type 0) : Type 0 where
   pub writer : W
   pub sink : Sink

@@ -1,4 +1,4 @@
--- What clauses see of a `Streamed`.
+-- The parts of a `Streamed` that contracts refer to.
 use Rattle.std.specs.Prelude.{◌≡◌, ◌⊎◌, ℕ, ◌<◌, ◌≤◌, Bool, false, List, [], ◌++◌, length, take, Result, Ok, Err}
 use Rattle.std.specs.Prelude.{codes}
 use Rattle.std.specs.List.{flat_map, AllByRecursion}
@@ -10,8 +10,8 @@ use Rattle.tiny_http_body.specs.declared.chunks.TheConstants.{CHUNK}
 use Rattle.tiny_http_body.specs.declared.streamed.StreamedForm.{StreamedForm}
 use Rattle.tiny_http_body.specs.declared.streamed.StreamedForm.TheVariants.{Chunks, Plain, Absent}
 
--- What clauses see of a `Streamed`: the inner writer, what the writer states, how the body is sent, the held bytes, and
--- whether the writer has failed.
+-- The parts of a `Streamed` that contracts refer to: the inner writer, what the writer states, how the body is sent,
+-- the held bytes, and whether the writer has failed.
 pub record StreamedState (W : Type 0) : Type 0 where
   pub writer : W
   pub sink : Sink

@@ -10,7 +10,7 @@ use std::io::ErrorKind;
 use tiny_http_io::device::{ReadDevice, WriteDevice, put, put_all};
 use tiny_http_text::number::Numeral;
 
-/// The size of a full chunk in bytes (as in the original).
+/// The size of a full chunk in bytes (as in the Rust crate).
 pub const CHUNK: usize = 8192;
 
 /// Writes some bytes as one chunk: their number in lower-case hexadecimal without leading zeros, CR LF, the bytes, CR

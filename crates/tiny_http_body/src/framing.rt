@@ -18,7 +18,7 @@ use tiny_http_head::grammar::parse_content_length;
 use tiny_http_text::ascii::AsciiString;
 use tiny_http_text::text::trim;
 
-/// Maximum length in bytes of a body that is read with its head (as in the original).
+/// Maximum length in bytes of a body that is read with its head (as in the Rust crate).
 pub const LONGEST_WITH_HEAD: usize = 1024;
 
 /// Maximum length of a head in bytes under `Strict`, the CR LF of its empty line included (RFC 6585, section 5, sets no

@@ -93,7 +93,7 @@ abbrev pub is_head : Method → Bool
 is_head Head = true
 is_head _ = false
 
--- whether no body follows the head, as in a 204, a 304, or any response to a HEAD
+-- whether no body follows the head: only after a 204, a 304, and any response to a HEAD
 abbrev pub has_no_body : Method → ℕ → Bool
 has_no_body method status = is_head method || (status == 204 || status == 304)
 

@@ -18,7 +18,7 @@ use tiny_http_text::ascii::AsciiString;
 // The maximum number of bytes of a chunked body that are decoded at a time.
 const PIECE: usize = 1024;
 
-// Returns whether no body follows the head, as in a 204, a 304, or any response to a `HEAD`.
+// Returns whether no body follows the head: only after a 204, a 304, and any response to a `HEAD`.
 fn has_no_body(method: &Method, status: StatusCode) -> bool
     ensures { result ≡ has_no_body method.now status.0 }
 {

@@ -43,7 +43,8 @@ pub fn one_client_answer()
         → MatchResult (answer_read method bytes) (λ a. ReadsAnswer method bytes a.0 a.1) (LacksAnswer method bytes) }
 {}
 
-/// Any bytes consist of a unique list of responses to requests with these methods, in order, and a unique rest.
+/// Any bytes are read as exactly one list of responses to requests with these methods, in order, and one rest. The list
+/// goes on until the methods are used up or the rest begins with no response to the next method.
 pub fn one_list_of_client_answers()
     ensures some { (methods : List Method) (bytes : List ℕ)
         → (answers : List ClientAnswer) × (rest : List ℕ) × ReadsAnswers methods bytes answers rest }

@@ -53,8 +53,8 @@ pub record Kept : Type 0 where
   pub sink : Sink
   pub output_ended : Bool
 
--- What clauses see of a `Connection`: its profile, the turns of its numbers, what is kept of those that aren't
--- finished, why the requests have ended, if they have, its input and its output.
+-- The parts of a `Connection` that contracts refer to: its profile, the turns of its numbers, what is kept of those
+-- that aren't finished, why the requests have ended, if they have, its input and its output.
 pub record ConnectionState (R W : Type 0) : Type 0 where
   pub profile : Profile
   pub marks : List Mark

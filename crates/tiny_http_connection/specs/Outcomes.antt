@@ -1,5 +1,5 @@
--- The reply and the effects of each step. The laws of `InShort` can be understood without this file: whatever it
--- defines, they state what is handed out, read and sent.
+-- The reply and the effects of each step. The short laws (`InShort`, in `tiny_http_connection_laws`) don't use these
+-- definitions: they state directly what is handed out, read and sent.
 use Rattle.std.specs.Prelude.{ℕ, ◌+◌, Bool, true, false, not, ◌&&◌, ◌||◌, ◌==◌, nat_lt, List, [], ◌∷◌, ◌++◌, length}
 use Rattle.std.specs.Prelude.{take, Option, Some, None, if◌then◌else◌, slice_get, slice_set}
 use Rattle.std.specs.declared.io.ErrorKind.{ErrorKind}
@@ -64,7 +64,8 @@ changes old k s reply writer =
       writer = writer;
     }
 
--- the outcome of an Ask from these items on: it hands out the next request, after it has refused the heads before it
+-- the outcome of an Ask when these items come next: the heads before the next request are refused, and then that
+-- request is handed out, or the reply is `Ended` if there is none
 abbrev pub asks_from : HttpDate → WriterUse → List Slot → List Item → Outcome
 asks_from date writer slots [] =
     record { reply = Ended; slots = slots; rest = []; asking_ended = true; writer = writer }
@@ -151,7 +152,8 @@ needs_turn r s (Flush k) = true
 needs_turn r s (Upgrade k protocol response) = not (refuses_upgrade r s protocol response)
 needs_turn r s _ = false
 
--- how a step uses the writer if its text may be left: `Unreported` if its number's turn has come, else `Unused`
+-- how a step uses the writer if its text can wait for its number's turn: `Unreported` if that turn has come, else
+-- `Unused`
 abbrev pub use_in_turn : Bool → WriterUse
 use_in_turn true = Unreported
 use_in_turn false = Unused
@@ -160,14 +162,15 @@ use_in_turn false = Unused
 abbrev pub ends_asking : Bool → Outcome → Outcome
 ends_asking ends o = record o { asking_ended = o.asking_ended || ends }
 
--- Whether no head is read after a request that takes over the connection's stream now: it holds the next head, or would
--- be the last if it were answered now.
+-- Whether no head is read after a request that takes over the connection's stream now. So it is if the next head had to
+-- wait for the response to this request (`holds_next_head`), or if no head would be read after the request even if it
+-- were answered now.
 abbrev pub ends_with_stream : Request → Bool → ℕ → Bool → Bool
 ends_with_stream r owed given end_reported = holds_next_head r || ends_when_finished r owed given end_reported
 
--- What was reached, once a response was made that asks to close the connection, if `closes` holds: no further head is
--- read, and the response to the last number that was reached says that the connection closes, unless it was already
--- made.
+-- What has been reached, given a response that is about to be made. If that response asks to close the connection
+-- (`closes`), no further head is read, and the response to the last number reached says that the connection closes,
+-- unless that response has already been made. Otherwise nothing changes.
 abbrev pub asked_to_close : Bool → Reached → Reached
 asked_to_close closes old =
     if closes then record old { slots = with_last closing_slot old.slots; asking_ended = true } else old

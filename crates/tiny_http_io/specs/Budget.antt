@@ -1,4 +1,4 @@
--- What clauses see of a `Budget`.
+-- The parts of a `Budget` that contracts refer to.
 use Rattle.std.specs.Prelude.{ℕ, List, Some, false}
 use Rattle.std.specs.declared.io.ErrorKind.{ErrorKind}
 use Rattle.tiny_http_io.specs.Device.{Sink}

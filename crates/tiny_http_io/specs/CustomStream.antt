@@ -1,4 +1,4 @@
--- What clauses see of a `CustomStream`.
+-- The parts of a `CustomStream` that contracts refer to.
 use Rattle.tiny_http_io.specs.declared.custom_stream.CustomStream.{CustomStream}
 
 -- the inner reader of a `CustomStream`

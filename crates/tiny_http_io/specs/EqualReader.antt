@@ -1,4 +1,4 @@
--- What clauses see of an `EqualReader`.
+-- The parts of an `EqualReader` that contracts refer to.
 use Rattle.std.specs.Prelude.{◌≡◌, ℕ, ◌+◌, List, length, Option, Result, Ok, IfOk, OnErr}
 use Rattle.std.specs.declared.io.Error.{Error}
 use Rattle.std.specs.Option.{option_map}

@@ -1,4 +1,4 @@
--- What clauses see of a `FailsAt`.
+-- The parts of a `FailsAt` that contracts refer to.
 use Rattle.std.specs.Prelude.{◌≡◌, ◌≢◌, ℕ, ◌-◌, Bool, true, Result, Ok, Err}
 use Rattle.std.specs.IoError.{error_kind}
 use Rattle.std.specs.declared.io.Error.{Error}

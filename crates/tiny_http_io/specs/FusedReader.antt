@@ -1,4 +1,4 @@
--- What clauses see of a `FusedReader`.
+-- The parts of a `FusedReader` that contracts refer to.
 use Rattle.std.specs.Prelude.{◌≡◌, ℕ, ◌<◌, List, length, Bool, true, false, [], Option, Some, None, Result, Ok, IfOk}
 use Rattle.std.specs.Prelude.{OnErr, IsSome}
 use Rattle.std.specs.declared.io.Error.{Error}

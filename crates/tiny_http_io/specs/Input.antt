@@ -1,4 +1,4 @@
--- What clauses see of an `Input`.
+-- The parts of an `Input` that contracts refer to.
 use Rattle.std.specs.Prelude.{◌≡◌, ◌&&◌, ◌==◌, ◌+◌, ℕ, Bool, is_some, List, length, drop, [], Option, IsSome}
 use Rattle.tiny_http_io.specs.Device.{Feed}
 use Rattle.tiny_http_io.specs.declared.device.Stop.{Stop}

@@ -1,4 +1,4 @@
--- What clauses see of a `Metered`.
+-- The parts of a `Metered` that contracts refer to.
 use Rattle.std.specs.Prelude.{[], None, false}
 use Rattle.tiny_http_io.specs.Device.{Sink}
 use Rattle.tiny_http_io.specs.declared.device.Metered.{Metered}

@@ -1,4 +1,4 @@
--- What clauses see of an `Outlet`.
+-- The parts of an `Outlet` that contracts refer to.
 use Rattle.std.specs.Prelude.{◌≡◌, ℕ, Bool, false, ◌||◌, List, [], Result, Ok, Err}
 use Rattle.std.specs.IoError.{error_kind}
 use Rattle.std.specs.declared.io.Error.{Error}
@@ -16,8 +16,8 @@ holding s held ended =
       has_ended = ended || s.has_ended;
     }
 
--- What clauses see of an `Outlet`: the bytes held back, whether it takes nothing more, the inner writer, and what the
--- writer states.
+-- The parts of an `Outlet` that contracts refer to: the bytes held back, whether it takes nothing more, the inner
+-- writer, and what the writer states.
 pub record OutletState (W : Type 0) : Type 0 where
   pub held : List ℕ
   pub ended : Bool

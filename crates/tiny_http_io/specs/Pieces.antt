@@ -1,4 +1,4 @@
--- What clauses see of a `ByPieces`.
+-- The parts of a `ByPieces` that contracts refer to.
 use Rattle.std.specs.Prelude.{ℕ, max}
 use Rattle.tiny_http_io.specs.declared.device.ByPieces.{ByPieces}
 

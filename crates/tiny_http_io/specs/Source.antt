@@ -1,4 +1,4 @@
--- What clauses see of a `Source`, and what its calls change.
+-- The parts of a `Source`, and what its calls change, that contracts refer to.
 use Rattle.std.specs.Prelude.{ℕ, ◌+◌, ◌^◌, ◌≡◌, ◌≢◌, ◌<◌, ◌≤◌, ◌⊎◌, ◌++◌, length, take, drop, Bool, true, false}
 use Rattle.std.specs.Prelude.{IsTrue, List, ⊤, Option, None, Some, Result, Ok, Err, IsSome, IfOk, IfErr, OnOk, OnErr}
 use Rattle.std.specs.Prelude.{IfSome}
@@ -22,9 +22,9 @@ use Rattle.tiny_http_io.specs.declared.source.LineFault.{LineFault}
 use Rattle.tiny_http_io.specs.declared.source.LineFault.TheVariants.{NotAscii, TooLong, Broken, Memory}
 use Rattle.tiny_http_io.specs.declared.source.LineFault.TheVariants.{End as EndOfLines, TimedOut as LineTimedOut}
 
--- What clauses see of a `Source`: the feed still to come, if the reader states its own; how the input stopped, if it
--- has; whether it has stopped and none of it is left; the inner reader; the buffered bytes, and how many bytes are to
--- be skipped first; and the input state.
+-- The parts of a `Source` that contracts refer to: the feed still to come, if the reader states its own; how the input
+-- stopped, if it has; whether it has stopped and none of it is left; the inner reader; the buffered bytes, and how many
+-- bytes are to be skipped first; and the input state.
 pub record SourceState (R : Type 0) : Type 0 where
   pub feed : Option Feed
   pub stop : Option Stop

@@ -1,5 +1,5 @@
--- What clauses see of THE CONNECTION TABLE: its two limits, the number of the next connection, and the open connections
--- in order of arrival.
+-- The parts of THE CONNECTION TABLE that contracts refer to: its two limits, the number of the next connection, and the
+-- open connections in order of arrival.
 use Rattle.std.specs.Prelude.{◌≡◌, ℕ, ◌+◌, ◌-◌, ◌^◌, ◌≤◌, Bool, false, not, ◌||◌, ◌==◌, nat_le, if◌then◌else◌, List}
 use Rattle.std.specs.Prelude.{[], ◌∷◌, ◌++◌, length, filter, count_by, Option, Some, None, option_map, Result, Ok}
 use Rattle.std.specs.Prelude.{Err}
@@ -11,8 +11,8 @@ use Rattle.tiny_http_limits.specs.declared.connection_table.Entry.{Entry}
 use Rattle.tiny_http_limits.specs.declared.connection_table.Refusal.{Refusal}
 use Rattle.tiny_http_limits.specs.declared.connection_table.Refusal.TheVariants.{Full, AddressFull, Memory}
 
--- What clauses see of a `ConnectionTable`: the limits of connections, in all and from one address; the next number; and
--- the open connections.
+-- The parts of a `ConnectionTable` that contracts refer to: the limits of connections, in all and from one address; the
+-- next number; and the open connections.
 pub record Connected (T : Type 0) : Type 0 where
   pub most : ℕ
   pub most_of_address : ℕ

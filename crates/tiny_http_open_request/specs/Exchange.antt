@@ -1,4 +1,4 @@
--- What clauses see of an `Exchange`.
+-- The parts of an `Exchange` that contracts refer to.
 use Rattle.std.specs.Prelude.{◌≡◌, ℕ, Bool, false, List, Option, Result, ⊤, unwrap_or}
 use Rattle.httpdate.specs.declared.date.HttpDate.{HttpDate}
 use Rattle.tiny_http_io.specs.Device.{Feed}

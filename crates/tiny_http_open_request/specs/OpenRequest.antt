@@ -1,4 +1,4 @@
--- What clauses see of an `OpenRequest`.
+-- The parts of an `OpenRequest` that contracts refer to.
 use Rattle.std.specs.Prelude.{◌≡◌, ◌&&◌, ◌||◌, ◌==◌, ℕ, Bool, true, false, not, nat_lt, List, [], Option, Some, None}
 use Rattle.std.specs.Prelude.{Result, Ok, Err, ⊤, if◌then◌else◌}
 use Rattle.std.specs.List.{list_all}

@@ -1,4 +1,4 @@
--- What clauses see of an `OwnPage`, a writer into its own memory.
+-- The parts of an `OwnPage`, a writer into its own memory, that contracts refer to.
 use Rattle.std.specs.Prelude.{Some, None, false}
 use Rattle.tiny_http_io.specs.Device.{Sink}
 use Rattle.tiny_http_open_request.specs.declared.error_response.OwnPage.{OwnPage}

@@ -1,4 +1,4 @@
--- What clauses see of a `DropText`, a text that hasn't been printed yet.
+-- The parts of a `DropText`, a text that hasn't been printed yet, that contracts refer to.
 use Rattle.std.specs.Prelude.{ℕ, Bool, List, [], if◌then◌else◌}
 use Rattle.httpdate.specs.declared.date.HttpDate.{HttpDate}
 use Rattle.tiny_http_response.specs.declared.response_context.ResponseContext.{ResponseContext}

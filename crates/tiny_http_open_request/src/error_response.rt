@@ -88,7 +88,7 @@ pub(crate) fn persistence_of(by_standard: bool, is_last: bool) -> Option<Persist
 const TOO_NEW: &str = "This server only supports HTTP versions 1.0 and 1.1";
 
 /// Prints the response to a head whose version is above 1.1, under `Lenient` and `Strict`: a 505 in version 1.1 with a
-/// plain-text body that names the supported versions (as in the original; RFC 9110, section 15.6.6). The body is
+/// plain-text body that names the supported versions (as in the Rust crate; RFC 9110, section 15.6.6). The body is
 /// omitted if `no_body` is set. Fails if memory is refused.
 pub fn too_new_answer(alloc: Global, no_body: bool, now: HttpDate) -> Result<Vec<u8>, AllocError>
     ensures { IfOk result
@@ -190,8 +190,7 @@ fn print_drop(room: Vec<u8>, context: ResponseContext, now: HttpDate) -> Vec<u8>
     }
 }
 
-/// The text that is sent if a request is dropped: an empty 500, or no bytes once it was taken. Its memory is allocated
-/// when the `DropText` is created; the text is printed when the request is dropped.
+/// The text that is sent if a request is dropped: an empty 500, or no bytes once the text has been taken.
 #[derive(Drop)]
 pub struct DropText {
     room: Vec<u8>,

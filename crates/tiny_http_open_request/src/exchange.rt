@@ -174,9 +174,9 @@ impl Exchange {
     }
 
     /// Sends the response that upgrades the connection to `protocol` (RFC 9110, section 7.8), dated `now`, and flushes
-    /// it: the head alone, with `Connection: upgrade` and `Upgrade: PROTOCOL` before the other headers (as in the
-    /// original). The data are dropped unread, and no 100 is owed afterwards. A fault of the writer ends the outlet,
-    /// and isn't reported. An outlet that has ended sends nothing. Allocates nothing.
+    /// it: the head alone, with `Connection: upgrade` and `Upgrade: PROTOCOL` before the other headers (as in the Rust
+    /// crate). The data are dropped unread, and no 100 is owed afterwards. A fault of the writer ends the outlet, and
+    /// isn't reported. An outlet that has ended sends nothing. Allocates nothing.
     ///
     /// The caller must make this call in the request's turn, instead of sending a response, and must send neither a
     /// response nor the text of a drop afterwards. From then on the output is the protocol's, and `read_body` reads the
@@ -250,9 +250,9 @@ impl Exchange {
     }
 
     /// Takes the text that is sent if this request is dropped: an empty 500, printed for the request's version, headers
-    /// and method, with the date on which the request was read (as in the original). A later call returns no bytes. No
-    /// 100 is owed afterwards. The caller must send the text in the request's turn, instead of a response, and discard
-    /// the body. Allocates nothing.
+    /// and method, with the date on which the request was read (as in the Rust crate). A later call returns no bytes.
+    /// No 100 is owed afterwards. The caller must send the text in the request's turn, instead of a response, and
+    /// discard the body. Allocates nothing.
     pub fn text_of_drop(&mut self) -> Vec<u8>
         ensures text { result.items ≡ exchange_drop_text self.old }
         ensures once { Changes HasNoDropText self.old self.new }

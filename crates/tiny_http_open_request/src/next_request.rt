@@ -35,7 +35,7 @@ pub trait RefusalPlace<O> {
 
 /// Reads heads up to that of the next request, and hands the response to each refused head to `place`. A refused head
 /// ends the requests, with one exception: under `Lenient` and `Strict` the next head is read after a 505, unless the
-/// refused head names an upgrade or its body is chunked (as in the original). `now` dates the responses to refused
+/// refused head names an upgrade or its body is chunked (as in the Rust crate). `now` dates the responses to refused
 /// heads, and the 500 of a dropped request. Fails if memory is refused, or after 2^64 refused heads.
 pub fn next_request<R: ReadDevice, O, P: RefusalPlace<O>>(
     alloc: Global,

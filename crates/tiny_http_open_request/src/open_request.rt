@@ -286,9 +286,9 @@ impl<B: Drop> OpenRequest<B> {
     }
 
     /// Sends the response that upgrades the connection to `protocol` (RFC 9110, section 7.8), dated `now`, and flushes
-    /// it: the head alone, with `Connection: upgrade` and `Upgrade: PROTOCOL` before the other headers (as in the
-    /// original). The data are dropped unread, and no 100 is owed afterwards. A fault of the writer ends the outlet,
-    /// and isn't reported. An outlet that has ended sends nothing. Allocates nothing.
+    /// it: the head alone, with `Connection: upgrade` and `Upgrade: PROTOCOL` before the other headers (as in the Rust
+    /// crate). The data are dropped unread, and no 100 is owed afterwards. A fault of the writer ends the outlet, and
+    /// isn't reported. An outlet that has ended sends nothing. Allocates nothing.
     ///
     /// The caller must call `check_upgrade` first, and make this call in the request's turn, instead of sending a
     /// response. From then on the output is the protocol's, and the protocol's input is what the body returns after
@@ -322,7 +322,7 @@ impl<B: Drop> OpenRequest<B> {
     }
 
     /// Takes the text that is sent if this request is dropped with `left` of its body unread: an empty 500, printed for
-    /// the request's version, headers and method, with the date on which the request was read (as in the original). A
+    /// the request's version, headers and method, with the date on which the request was read (as in the Rust crate). A
     /// later call returns no bytes. No 100 is owed afterwards. The caller must send the text in the request's turn,
     /// instead of a response, and discard the body. Allocates nothing.
     pub fn take_drop_text(&mut self, left: Remainder) -> Vec<u8>

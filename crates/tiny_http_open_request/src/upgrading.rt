@@ -70,7 +70,7 @@ pub fn check_upgrade(
 }
 
 // Sends the response that upgrades a connection to this protocol, and flushes it: the head alone, with `Connection:
-// upgrade` and `Upgrade: PROTOCOL` before the other headers (as in the original). The response's data are dropped
+// upgrade` and `Upgrade: PROTOCOL` before the other headers (as in the Rust crate). The response's data are dropped
 // unread. A fault of the writer isn't reported. An outlet that has ended sends nothing. Allocates nothing.
 pub(crate) fn send_upgrade_quietly<W: WriteDevice, D: Drop>(
     alloc: Global,

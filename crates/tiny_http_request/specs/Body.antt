@@ -1,4 +1,4 @@
--- What clauses see of a request's body, and of a read of it.
+-- The parts of a request's body, and of a read of it, that contracts refer to.
 use Rattle.std.specs.Prelude.{◌≡◌, ◌<◌, ◌==◌, ◌&&◌, ◌||◌, ℕ, Bool, true, false, List, length, take, Option, Some, None}
 use Rattle.std.specs.Prelude.{Result, Ok, IfOk, IfErr, IfSome}
 use Rattle.std.specs.Option.{option_map}
@@ -23,7 +23,7 @@ outlasts_body AfterBody = false
 outlasts_body AfterAnswer = true
 outlasts_body Never = false
 
--- What clauses see of a `Body`.
+-- The parts of a `Body` that contracts refer to.
 pub record BodyState : Type 0 where
   -- how far the body was read
   pub unread : UnreadBody

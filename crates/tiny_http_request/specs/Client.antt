@@ -1,4 +1,4 @@
--- What clauses see of a `ClientConnection`.
+-- The parts of a `ClientConnection` that contracts refer to.
 use Rattle.std.specs.Prelude.{◌≡◌, ◌||◌, ℕ, zero, suc, Bool, true, false, [], Option, Some, None, Ok, MatchBool}
 use Rattle.std.specs.Global.{Vec}
 use Rattle.std.specs.Option.{option_and_then}
@@ -51,7 +51,7 @@ pub record HandsOut {R W Rt : Type 0} (old new : ClientConnection R W Rt) (date 
   pub last : (request_head r).framing.is_last ≡ true → IsOver new
   pub goes_on : (request_head r).framing.is_last ≡ false → IsOver new → ⊥
 
--- the input, if the next head is read on it at once
+-- the input, if the next head can be read from it at once, without waiting for an earlier request
 abbrev pub source_here : {R : Type 0} → {Rt : Type 0} → NextHead R Rt → Option (SourceState R)
 source_here (Here reader) = Some (held_item reader)
 source_here (Behind reader) = None
@@ -60,7 +60,7 @@ source_here (Behind reader) = None
 abbrev pub client_source : {R W Rt : Type 0} → ClientConnection R W Rt → Option (SourceState R)
 client_source c = option_and_then source_here c.next_head
 
--- Whether a connection holds an input over this reader, of which nothing was read.
+-- Whether a connection holds a new input over this reader: nothing has been read from the reader.
 pub record IsFreshSource {R : Type 0} (stated : R → Option Feed) (reader : R) (held : Option (SourceState R)) : Type 0
   where
     pub source : SourceState R
@@ -89,8 +89,8 @@ pub record FindsRequest {R : Type 0} (p : Profile) (date : HttpDate) (here : Sou
   pub passes : PassesRefused p date passed here at
   pub reads : TakesHead p date at there (Ok (read.Request x))
 
--- whether the input, once a request was handed out, is held by the request's body, or else by the connection, if a next
--- head is read
+-- whether, after a request has been handed out, its body holds the input, or, if it doesn't and a further head is to be
+-- read, the connection holds the input
 abbrev pub GivesInput : {R W Rt : Type 0} → SourceState R → ClientConnection R W Rt → Request R W Rt → Type 0
 GivesInput source new r =
     MatchBool (request_body r).holds_input ((request_body r).input ≡ source.feed)

@@ -1,4 +1,4 @@
--- What clauses see of a request, and of the errors in making one.
+-- The parts of a request, and of the errors in making one, that contracts refer to.
 use Rattle.std.specs.Prelude.{◌≡◌, ⊤, ℕ, Bool, true, false, ◌&&◌, List, Option, None, Some, Result, Ok, Err, codes}
 use Rattle.std.specs.IoError.{error_kind}
 use Rattle.std.specs.declared.io.Error.{Error}

@@ -1,4 +1,4 @@
--- What clauses see of a test's request.
+-- The parts of a test's request that contracts refer to.
 use Rattle.std.specs.Prelude.{◌≡◌, ℕ, List, ◌∷◌, ◌++◌, [], None, false, is_some, codes, decimal, if◌then◌else◌}
 use Rattle.tiny_http_head.specs.declared.common.Header.{Header}
 use Rattle.tiny_http_body.specs.Framing.{value_of}

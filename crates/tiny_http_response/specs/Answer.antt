@@ -26,7 +26,7 @@ use Rattle.tiny_http_response.specs.Owing.{owed, owing}
 use Rattle.tiny_http_response.specs.declared.response.TheConstants.{THRESHOLD}
 use Rattle.tiny_http_body.specs.Text.{Text, prepend_text, whole, nothing_sent, identity_body, chunked_body, Prints}
 
--- What clauses see of a response apart from its data.
+-- The parts of a response apart from its data that contracts refer to.
 pub record Answer : Type 0 where
   pub status : ℕ
   pub headers : List Header
@@ -125,8 +125,8 @@ answer_head_text version status upgrade headers listed date framing =
 abbrev pub is_withheld : Bool → ℕ → Bool
 is_withheld asked status = asked || has_no_content status
 
--- What clauses see of how a response is printed: what its request determines, whether the connection persists (only
--- under `Standard`), the protocol to upgrade to, and the date.
+-- The parts of how a response is printed that contracts refer to: what its request determines, whether the connection
+-- persists (only under `Standard`), the protocol to upgrade to, and the date.
 pub record Printing : Type 0 where
   pub version : HTTPVersion
   pub asked_coding : Option Coding
@@ -226,7 +226,7 @@ abbrev pub PrintsGathered : {T : Type 0} → Sink → Sink → Result T Error �
 PrintsGathered old new r front withheld feed =
     PrintsText old new r (gathered_body feed.stop front withheld feed.bytes) ⊎ LacksMemory old new r
 
--- What clauses see of a `Response`: the answer, and the reader of its data.
+-- The parts of a `Response` that contracts refer to: the answer, and the reader of its data.
 pub record ResponseState (R : Type 0) : Type 0 where
   pub answer : Answer
   pub data_reader : R

@@ -193,8 +193,9 @@ fn put_status<W: WriteDevice>(writer: &mut W, head: &ResponseHead<'_>) -> Result
     }
 }
 
-// Writes the field lines after `Date`: the headers of the response. Under `Profile::Standard` they are made safe and,
-// unless there is an upgrade or the code is below 200, `Connection` and `Upgrade` come before them if needed.
+// Writes the headers that the response lists, which come between `Date` and the framing header. Under
+// `Profile::Standard` they are written by `put_safe_headers`, after `Connection` and `Upgrade` if these are needed; an
+// upgrade or a code below 200 never has these two here.
 fn put_listed<W: WriteDevice>(
     writer: &mut W,
     head: &ResponseHead<'_>,

@@ -56,7 +56,7 @@ pub struct Response<R> {
     contentless: bool,
 }
 
-/// A response whose data come from a boxed reader of any type (as in the original).
+/// A response whose data come from a boxed reader of any type (as in the Rust crate).
 pub type ResponseBox = Response<Metered<Box<dyn Read + Send + Drop>>>;
 
 impl<R> Model for Response<R> {
@@ -81,9 +81,10 @@ impl<R> Model for Response<R> {
     ghost invariant = { λ r. IsResponseHeaders r.headers.items };
 }
 
-/// The default chunked threshold: data of this length in bytes or more are sent in chunks (as in the original), unless
-/// `coding::choose` requires otherwise. To send data of any known length, such as a file, with a `Content-Length`, use
-/// `with_chunked_threshold(usize::MAX)`; a request may still get chunks if its `TE` asks for them.
+/// The default chunked threshold: data of this length in bytes or more are sent in chunks (as in the Rust crate),
+/// unless `coding::choose` requires otherwise. To send data of any known length, such as a file, with a
+/// `Content-Length`, use `with_chunked_threshold(usize::MAX)`; a request may still get chunks if its `TE` asks for
+/// them.
 pub const THRESHOLD: usize = 32768;
 
 // Returns the header `Content-Type: text/plain; charset=UTF-8`. Fails if memory is refused.
@@ -97,10 +98,10 @@ fn text_plain(alloc: Global) -> Result<Header, AllocError>
 }
 
 impl<F: Read + OpenFile> Response<Metered<F>> {
-    /// Creates a 200 response with an open file as its data, and no headers (as in the original). The length is the one
-    /// in the file's metadata, or unknown if the metadata can't be read. By default a file of `THRESHOLD` bytes or more
-    /// is sent in chunks, without a `Content-Length`; `with_chunked_threshold(usize::MAX)` changes that. If the file
-    /// shrinks before it is sent, sending it fails with `UnexpectedEof`; in chunks it does so only under
+    /// Creates a 200 response with an open file as its data, and no headers (as in the Rust crate). The length is the
+    /// one in the file's metadata, or unknown if the metadata can't be read. By default a file of `THRESHOLD` bytes or
+    /// more is sent in chunks, without a `Content-Length`; `with_chunked_threshold(usize::MAX)` changes that. If the
+    /// file shrinks before it is sent, sending it fails with `UnexpectedEof`; in chunks it does so only under
     /// `Profile::Standard`. Allocates nothing.
     pub fn from_file(alloc: Global, file: F) -> Response<Metered<F>>
         ensures status { result.answer.status ≡ 200 }
@@ -115,7 +116,7 @@ impl<F: Read + OpenFile> Response<Metered<F>> {
 
 impl Response<Cursor<Vec<u8>>> {
     /// Creates a 200 response with this text as its data, of known length, and `Content-Type: text/plain;
-    /// charset=UTF-8` (as in the original). Fails if memory for that header is refused.
+    /// charset=UTF-8` (as in the Rust crate). Fails if memory for that header is refused.
     pub fn from_string(alloc: Global, text: String) -> Result<Response<Cursor<Vec<u8>>>, AllocError>
         ensures answer { IfOk result (λ r. r.answer ≡ answer_with 200 (text_plain ∷ []) (string_len text)) }
         ensures bytes { IfOk result (λ r. cursor_bytes r.data_reader ≡ string_bytes text) }
@@ -345,7 +346,7 @@ impl<R> Response<R> {
         response
     }
 
-    /// Adds a header (as in the original). `Connection`, `Trailer`, `Transfer-Encoding` and `Upgrade` are ignored, in
+    /// Adds a header (as in the Rust crate). `Connection`, `Trailer`, `Transfer-Encoding` and `Upgrade` are ignored, in
     /// any letter case. `Content-Length` sets the length of the data if its value is an optional `+` and digits, at
     /// most 2^64 - 1; otherwise it is ignored. A second `Content-Type` replaces the value of the first, in place. Any
     /// other header is appended. Only appending needs memory: if memory is refused, the error hands back the header,

@@ -1,4 +1,4 @@
--- What clauses see of sockets and of their addresses: their kind.
+-- The parts of sockets and of their addresses that contracts refer to: their kind.
 use Rattle.std.specs.Prelude.{◌≡◌, ℕ, List, Option, Some, None, ⊤}
 use Rattle.std.specs.declared.net.socket_addr.SocketAddr.{SocketAddr}
 use Rattle.std.specs.declared.net.unix.addr.SocketAddr.{SocketAddr as UnixAddr}

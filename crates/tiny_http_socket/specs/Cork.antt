@@ -1,4 +1,4 @@
--- What clauses see of the halves of a corked connection.
+-- The parts of the halves of a corked connection that contracts refer to.
 use Rattle.std.specs.Prelude.{◌≡◌, ℕ, [], Option, Some, None, false, Result, Ok, Err}
 use Rattle.std.specs.IoError.{error_kind}
 use Rattle.std.specs.declared.io.Error.{Error}

@@ -1,4 +1,4 @@
--- What clauses see of a `Corked`, a writer with a buffer.
+-- The parts of a `Corked`, a writer with a buffer, that contracts refer to.
 use Rattle.std.specs.Prelude.{◌≡◌, ℕ, ◌<◌, ◌≤◌, Bool, true, false, List, ◌++◌, length, take, Option, Some, None}
 use Rattle.std.specs.Prelude.{Result, Ok, Err}
 use Rattle.std.specs.IoError.{error_kind}
@@ -8,8 +8,8 @@ use Rattle.tiny_http_io.specs.Device.{Sink, IsFront, IsKnownFront, HoldsNothing,
 use Rattle.tiny_http_socket.specs.declared.corked.State.{State}
 use Rattle.tiny_http_socket.specs.declared.corked.State.TheVariants.{Open, Broken, Ended}
 
--- What clauses see of a `Corked`: the buffered bytes, whether it takes more, the number of failures that it reported
--- and the kind of the last one, the inner writer, and what the inner writer states.
+-- The parts of a `Corked` that contracts refer to: the buffered bytes, whether it takes more, the number of failures
+-- that it reported and the kind of the last one, the inner writer, and what the inner writer states.
 pub record CorkedState (W : Type 0) : Type 0 where
   pub waiting : List ℕ
   pub state : State

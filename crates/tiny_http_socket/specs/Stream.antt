@@ -1,4 +1,4 @@
--- What clauses see of a half of a client's connection.
+-- The parts of a half of a client's connection that contracts refer to.
 use Rattle.std.specs.Prelude.{◌≡◌, [], Some, None, ⊤, false, Option}
 use Rattle.std.specs.declared.net.Shutdown.{Shutdown}
 use Rattle.std.specs.declared.net.Shutdown.TheVariants.{Read, Write}

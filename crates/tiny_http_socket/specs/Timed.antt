@@ -1,4 +1,4 @@
--- What clauses see of a reader and a writer with timeouts.
+-- The parts of a reader and a writer with timeouts that contracts refer to.
 use Rattle.std.specs.Prelude.{◌≡◌, ℕ, [], Some, None, false, Result, Ok, Err}
 use Rattle.std.specs.IoError.{error_kind}
 use Rattle.std.specs.declared.io.Error.{Error}

@@ -1,4 +1,4 @@
--- What clauses see of a `FromAsciiError`.
+-- The parts of a `FromAsciiError` that contracts refer to.
 use Rattle.std.specs.Prelude.{ℕ, List}
 use Rattle.tiny_http_text.specs.declared.ascii.FromAsciiError.{FromAsciiError}
 

@@ -1,4 +1,4 @@
--- What clauses see of `TextBytes`, the bytes of an `AsciiString`.
+-- The parts of `TextBytes`, the bytes of an `AsciiString`, that contracts refer to.
 use Rattle.std.specs.Prelude.{ℕ, List, take}
 use Rattle.tiny_http_text.specs.declared.ascii.TextBytes.{TextBytes}
 use Rattle.tiny_http_text.specs.declared.ascii.TextBytes.TheVariants.{Short, Long}

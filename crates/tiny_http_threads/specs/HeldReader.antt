@@ -1,4 +1,4 @@
--- What clauses see of a reader whose turn has come.
+-- The parts of a reader whose turn has come that contracts refer to.
 use Rattle.tiny_http_threads.specs.declared.held_reader.HeldReader.{HeldReader}
 
 -- the inner reader of a reader whose turn has come

@@ -5,8 +5,8 @@ use Rattle.tiny_http_threads.specs.declared.task_pool.TheConstants.{MIN_THREADS}
 use Rattle.tiny_http_threads.specs.declared.task_pool.Offered.{Offered}
 use Rattle.tiny_http_threads.specs.declared.task_pool.Offered.TheVariants.{Queued, Start, Back}
 
--- What clauses see of a `PoolState`: the jobs that wait, front first; how many workers run, and how many of these are
--- idle; whether the pool is closed.
+-- The parts of a `PoolState` that contracts refer to: the jobs that wait, front first; how many workers run, and how
+-- many of these are idle; whether the pool is closed.
 pub record Pool (J : Type 0) : Type 0 where
   pub jobs : List J
   pub idle : ℕ

@@ -13,9 +13,9 @@ use Rattle.std.specs.declared.sync.Condvar.{Condvar}
 use Rattle.tiny_http_threads.specs.declared.turn_queue.Taking.{Taking}
 use Rattle.tiny_http_threads.specs.declared.turn_queue.Taking.TheVariants.{Held, Waits as IsWaiting, Refused}
 
--- What clauses see of a `TurnQueueState`: the turns, with a mark for each issued number; the numbers whose threads
--- wait, and what wakes each; the last number that `issue_unless_closed` issued; the counter of unfinished numbers;
--- whether a thread waits for room.
+-- The parts of a `TurnQueueState` that contracts refer to: the turns, with a mark for each issued number; the numbers
+-- whose threads wait, and what wakes each; the last number that `issue_unless_closed` issued; the counter of unfinished
+-- numbers; whether a thread waits for room.
 pub record TurnQueueView (T W C : Type 0) : Type 0 where
   pub turns : TurnsState T
   pub waiting : List (ℕ × W)

@@ -23,7 +23,7 @@ mark_of (IsLeft text) = Left text.items
 abbrev pub marks_of : ℕ → List Entry → List Mark
 marks_of turn entries = replicate turn Finished ++ map mark_of entries
 
--- What clauses see of a `Turns`: the marks of all numbers, and the item if no number holds it.
+-- The parts of a `Turns` that contracts refer to: the marks of all numbers, and the item if no number holds it.
 pub record TurnsState (T : Type 0) : Type 0 where
   pub marks : List Mark
   pub resting : Option T
