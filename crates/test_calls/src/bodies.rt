@@ -94,7 +94,8 @@ pub fn read_head_alone(
 // Number of reads after which data that have not ended count as endless.
 const MOST_READS: u64 = 1_000_000;
 
-/// Reads the remaining bytes. Returns them and how they end, or `None` if they have not ended after `MOST_READS` reads.
+/// Reads the remaining bytes. Returns them, and how they end, which is `None` if they have not ended after `MOST_READS`
+/// reads.
 pub fn drain<R: ReadDevice>(
     alloc: Global,
     reader: &mut R,
@@ -140,8 +141,8 @@ fn is_settled(
     Ok(is_over(alloc, decoder, stop)? && is_over_once)
 }
 
-// Adds the data of a body and how they end. Also checks that a read into an empty buffer returns 0, and that later
-// reads repeat the end.
+// Adds the data of a body and how they end. Also adds `changed` if a read into an empty buffer does not return 0, and
+// again if later reads do not repeat the end.
 fn read_body(
     alloc: Global,
     decoder: &mut Decoder<ByPieces<Canned>>,

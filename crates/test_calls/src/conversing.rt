@@ -73,7 +73,7 @@ fn upgrade(
     add(alloc, to, "reads", data.reads().as_bytes())
 }
 
-// Runs the step that a line of a script names, and adds its reply.
+// Runs the step that a line of a script names, and adds its reply, or `no step` if the line names none.
 fn do_step(
     alloc: Global,
     connection: &mut Connected,

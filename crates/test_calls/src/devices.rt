@@ -7,6 +7,7 @@ use test_case_files::devices::Trier;
 use tiny_http_wire::device::{Canned, Metered, ReadDevice, copy_front};
 
 /// A reader of a client's bytes. It returns them piece by piece, at most `most` bytes a call, and then fails or ends.
+/// If the row makes one of its calls fail (`failing_read`), the next call returns what that call would have returned.
 #[derive(Drop)]
 pub struct Client {
     pieces: Vec<Vec<u8>>,

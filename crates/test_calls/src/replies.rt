@@ -92,7 +92,8 @@ pub fn add_taken(
     Ok(())
 }
 
-/// Adds what an outlet has buffered, whether it has ended, and what its writer accepted.
+/// Adds what an outlet has buffered, whether it has ended, and, as `add_taken` does, what its writer accepted and how
+/// the writer was called.
 pub fn add_outlet(
     alloc: Global,
     outlet: Outlet<Below>,

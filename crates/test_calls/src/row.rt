@@ -159,8 +159,8 @@ pub struct Input {
     pub has_flushes: bool,
     /// Whether the encoder is dropped before it finishes the body.
     pub is_open: bool,
-    /// How many bytes the writer accepts, and the error with which it then fails. If absent, the writer accepts
-    /// everything.
+    /// How many bytes the writer accepts, and the error with which it then fails. If absent, the number of bytes is not
+    /// limited.
     pub room: Option<Room>,
     /// Writers with too little room, with which the call is tried too.
     pub rooms: Option<Rooms>,
@@ -168,7 +168,7 @@ pub struct Input {
     pub pieces: Vec<Vec<u8>>,
     /// The call on the reader that fails, if one does.
     pub failing_read: Option<Failing>,
-    /// The call on the writer that fails, if one does.
+    /// The call on the writer that fails, if one does. In that case, `room` has no effect.
     pub failing_write: Option<Failing>,
     /// Whether each write accepts no byte and returns `Ok(0)`.
     pub is_stuck: bool,

@@ -33,7 +33,8 @@ fn read_reply(
     }
 }
 
-/// Reads from a reader through `Read` or `ReadDevice`. Formats the result.
+/// Reads from a reader through `Read` or `ReadDevice`, and formats the result. For any other call, formats that the
+/// reader has no such call.
 pub fn read_by<R: ReadDevice + Read>(
     alloc: Global,
     reader: &mut R,

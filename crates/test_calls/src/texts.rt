@@ -49,7 +49,7 @@ fn add_header(alloc: Global, to: &mut Vec<Finding>, header: &Header) -> Result<(
     add(alloc, to, "value", header.value.as_str().as_bytes())
 }
 
-// Parses a header line, and adds its name and value, or that it is refused.
+// Parses a header line, and adds its name and value, or that it is refused. Adds nothing if the line isn't ASCII.
 fn read_header_line(alloc: Global, text: &str, to: &mut Vec<Finding>) -> Result<(), AllocError> {
     let line = text.as_bytes();
     if !are_ascii(line) {
@@ -61,7 +61,7 @@ fn read_header_line(alloc: Global, text: &str, to: &mut Vec<Finding>) -> Result<
     }
 }
 
-// Parses a request line, and adds its parts, or that it is refused.
+// Parses a request line, and adds its parts, or that it is refused. Adds nothing if the line isn't ASCII.
 fn read_request_line(alloc: Global, text: &str, to: &mut Vec<Finding>) -> Result<(), AllocError> {
     let line = text.as_bytes();
     if !are_ascii(line) {

@@ -21,7 +21,7 @@ use test_case_files::devices::PIECES;
 use test_data_files::fault::FilesFault;
 use test_data_files::text::shown;
 
-/// One way to try a call.
+// One way to try a call.
 #[derive(Clone, Copy, Debug, PartialEq, Eq)]
 struct Trial {
     // Maximum number of bytes that a read returns, or that are passed to one write. 0 means no limit.
@@ -31,8 +31,8 @@ struct Trial {
     room: Option<Room>,
 }
 
-/// A difference between the results of a trial and those that the row states: how the call was tried, the result that
-/// was found, and the one that was expected.
+// A difference between the results of a trial and those that the row states: how the call was tried, the result that
+// was found, and the one that was expected.
 #[derive(Drop)]
 struct Difference {
     how: String,

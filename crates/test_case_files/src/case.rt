@@ -20,7 +20,7 @@ pub struct Answer {
     pub headers: Vec<String>,
     /// The stated content length, if any.
     pub length: Option<usize>,
-    /// The body size from which chunks are used, if the case states one.
+    /// The chunked threshold of the response, if the case states one.
     pub threshold: Option<usize>,
     /// Whether the connection closes after the response.
     pub closes: bool,
@@ -46,7 +46,7 @@ pub struct CaseStep {
     pub deed: Deed,
     /// The reply line with its escapes replaced. A date has none.
     pub reply: Vec<u8>,
-    /// Whether the reply line has been read.
+    /// Whether the reply line has been read, or the step is a date.
     pub is_answered: bool,
 }
 
@@ -98,7 +98,7 @@ pub struct Case {
     pub stop: Option<ErrorKind>,
     /// How many bytes the writer accepts before it fails, or `None` if it accepts everything.
     pub room: Option<Room>,
-    /// Whether the case is never tried with the client's bytes cut short.
+    /// Whether the case is tried neither with the client's bytes cut short nor with a reader that fails once.
     pub is_uncut: bool,
     /// Number of the client's first bytes that are replaced with every value in turn.
     pub varied: Option<usize>,

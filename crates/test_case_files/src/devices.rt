@@ -24,7 +24,7 @@ pub struct Trier {
 }
 
 impl Trier {
-    /// Creates a writer that accepts `room` bytes, and then fails with `kind`.
+    /// Creates a writer that accepts `room` bytes, after which every non-empty write fails with `kind`.
     pub fn with_room(alloc: Global, room: usize, kind: ErrorKind) -> Trier {
         Trier {
             taken: Vec::new(alloc),

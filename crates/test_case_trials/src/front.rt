@@ -101,8 +101,8 @@ fn given_differs(
     Ok(None)
 }
 
-// Returns a difference if the number of replies differs, or if the first reply that differs belongs to a step other
-// than `ask` and `read`, the only steps that read from the client.
+// Returns a difference if the number of replies differs, or if the first reply that differs belongs to a step that is
+// neither an `ask` nor a `read`, the only steps that read from the client.
 fn first_reply_differs(
     alloc: Global,
     case: &Case,
@@ -181,7 +181,7 @@ fn without_408<'a>(case: &Case, output: &'a [u8], stop: Option<ErrorKind>) -> &'
 
 const CLOSE: &[u8] = b"Connection: close\r\n";
 
-// Returns the position of the last `Connection: close` field line in an output.
+// Returns the position of the last `Connection: close` field line in an output, if there is one.
 fn last_close(output: &[u8]) -> Option<usize> {
     (0..output.len()).rev().find(|place| output
         .get(*place..)
@@ -242,9 +242,9 @@ pub fn cut_difference(
     count_differs(alloc, "failures", outcome.failures, 0)
 }
 
-/// Returns the first difference between the requests of a trial, whose client sent the bytes `client`, and those that a
-/// plain reading of these bytes finds under the case's profile. There is no plain reading for `Strict`, and no case
-/// under that profile has its bytes changed.
+/// Returns the first difference between the requests of a trial, whose client sent the bytes `client`, and those that
+/// the independent reader `test_plain_reading` finds in these bytes under the case's profile. It has no reading for
+/// `Strict`, and no case under that profile has its bytes changed.
 pub fn plain_difference(
     alloc: Global,
     case: &Case,

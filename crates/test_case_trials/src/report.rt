@@ -35,7 +35,7 @@ pub struct CaseFile<'a> {
     pub cases: Vec<Case>,
 }
 
-/// Reads the cases of these files. Fails at the first invalid line.
+/// Reads the cases of these files. Fails if `read_cases` fails for one of them.
 pub fn files_of<'a>(
     alloc: Global,
     files: &[NamedFile<'a>],
@@ -234,8 +234,8 @@ fn try_whole<'a, F: Runner, O: Write>(
 }
 
 // Tries a case with the client's complete bytes. If no run differs, and the case doesn't determine how its writer
-// fails, also tries it with the client's bytes cut short, unless the case excludes that, and, if the runner knows the
-// requests' numbers, with one of the bytes changed.
+// fails, also tries it as `try_cuts` does, unless the case excludes that, and as `try_bytes` does, if the runner knows
+// the requests' numbers.
 fn try_case<'a, F: Runner, O: Write>(
     (alloc, runner): (Global, &mut F),
     out: &mut O,

@@ -38,8 +38,8 @@ fn with_header(
     }
 }
 
-/// Builds the response that an answer describes. Sets its data and content length first, and then adds its header
-/// fields in order.
+/// Builds the response that an answer describes. Sets its data and content length first, then adds its header fields in
+/// order, and finally sets its threshold, whether it closes the connection, and its upgrade offer.
 pub fn response_of(alloc: Global, answer: &Answer) -> Result<Response<ScriptData>, StepsFault> {
     let data = ScriptData::from_bytes(answer.data.as_slice().to_vec(alloc)?, answer.fault);
     let status = StatusCode(answer.status);
@@ -59,8 +59,8 @@ pub fn response_of(alloc: Global, answer: &Answer) -> Result<Response<ScriptData
     Ok(response)
 }
 
-/// Converts the action of a step. Returns the converted step, or `None` if the action only sets the date or is not a
-/// step, and the date from then on.
+/// Converts the action of a step. Returns the converted step, which is `None` if the action only sets the date or is
+/// not a step, and the date from then on.
 pub fn step_of(
     alloc: Global,
     deed: &Deed,

@@ -37,8 +37,8 @@ pub(crate) enum Held<R: Wait + Copy> {
     Stream(Stream<R>),
 }
 
-/// A request, raw writer or stream that is held, its number, and whether it may have written bytes that have not been
-/// sent yet.
+// A request, raw writer or stream that is held, its number, and whether it may have written bytes that have not been
+// sent yet.
 #[derive(Drop)]
 struct Numbered<R: Wait + Copy> {
     number: u64,
@@ -68,8 +68,8 @@ impl<R: Wait + Copy> Holding<R> {
         }
     }
 
-    /// Returns the next request. Also sends the responses that are held back, unless the response to this request may
-    /// be sent together with them.
+    /// Returns the next request, or `None` if there is none. Also sends the responses that are held back, unless the
+    /// response to this request may be sent together with them.
     pub(crate) fn next(&mut self, now: HttpDate) -> Result<Option<Asked<R>>, AllocError> {
         let next = self.client.next(now);
         self.cork.send_unless_leaving();

@@ -94,7 +94,7 @@ fn write_through<W: Write>(writer: &mut W, bytes: &[u8]) -> io::Result<()> {
     Ok(())
 }
 
-// Reads from the body of a request or from a stream.
+// Reads from the body of a request or from a stream. For a raw writer, the reply is `nosuch`.
 fn read<R: Wait + Copy>(
     alloc: Global,
     held: &mut Held<R>,
@@ -108,7 +108,7 @@ fn read<R: Wait + Copy>(
     }
 }
 
-// Writes to a raw writer or a stream.
+// Writes to a raw writer or a stream. For a request, the reply is `nosuch`.
 fn write<R: Wait + Copy>(
     alloc: Global,
     held: &mut Held<R>,
@@ -121,7 +121,7 @@ fn write<R: Wait + Copy>(
     }
 }
 
-// Flushes a raw writer or a stream.
+// Flushes a raw writer or a stream. For a request, the reply is `nosuch`.
 fn flush<R: Wait + Copy>(alloc: Global, held: &mut Held<R>) -> Result<Vec<u8>, AllocError> {
     match held {
         Held::Request(_) => word(alloc, "nosuch"),
@@ -130,7 +130,7 @@ fn flush<R: Wait + Copy>(alloc: Global, held: &mut Held<R>) -> Result<Vec<u8>, A
     }
 }
 
-// Upgrades a request, and holds its stream under `number`.
+// Upgrades a request, and holds its stream under `number`. If the upgrade is refused, nothing is held under `number`.
 fn upgrade<R: Wait + Copy>(
     alloc: Global,
     holding: &mut Holding<R>,

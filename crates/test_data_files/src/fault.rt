@@ -27,7 +27,7 @@ impl From<TextFault> for LineFault {
     }
 }
 
-/// Returns the text of a line, or `None` if the line is empty or a comment. Fails if it is not ASCII.
+/// Returns the text of a line, or `None` if the line is empty or a comment. Fails if any other line is not ASCII.
 pub fn line_text(line: &[u8]) -> Result<Option<&str>, LineFault> {
     if line.is_empty() || line.starts_with(b"#") {
         return Ok(None);

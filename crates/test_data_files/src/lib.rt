@@ -1,5 +1,5 @@
-//! Shared parts of the programs that run data files, such as `test_cases`, `test_calls` and `test_scenes`: the command
-//! line and the exit status, errors with line numbers, escapes in texts, and the names of error kinds.
+//! Shared parts of the programs that run data files (`test_cases`, `test_calls` and `test_scenes`): the command line
+//! and the exit status, errors with line numbers, escapes in texts, and the names of error kinds.
 #![tactic(auto)]
 
 pub mod fault;

@@ -1,4 +1,4 @@
-//! Reads the texts of cases: escapes, abbreviations, and repeated pieces.
+//! Reads the texts of data files: escapes, abbreviations, and repeated pieces.
 use std::alloc::{AllocError, Global};
 
 /// Why a text is invalid.
@@ -163,7 +163,7 @@ pub fn text_of(alloc: Global, text: &str) -> Result<Vec<u8>, TextFault> {
     Ok(bytes)
 }
 
-/// Formats bytes as the text of a case on one line. Backslashes and all bytes but printable ASCII become escapes.
+/// Formats bytes as a text of a data file, on one line. Backslashes and all bytes but printable ASCII become escapes.
 pub fn shown(alloc: Global, bytes: &[u8]) -> Result<String, AllocError> {
     let mut text = String::new(alloc);
     for byte in bytes {

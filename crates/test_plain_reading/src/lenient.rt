@@ -66,7 +66,8 @@ fn headers_of(
     Ok(None)
 }
 
-// Parses a request line. Returns `None` if a part is missing or the version is unknown.
+// Parses a request line, and ignores words after the version. Returns `None` if a part is missing or the version is
+// unknown.
 fn request_of(line: &str) -> Option<RequestWords<'_>> {
     let mut words = line.trim_matches(is_white).split(' ');
     let method = words.next()?;
@@ -184,8 +185,8 @@ impl<'a> PlainHead<'a> {
     }
 }
 
-/// Returns the reply lines of the first `most` requests, or fewer, that these bytes contain under `Lenient` if each
-/// request is dropped before the next is received.
+/// Returns the reply lines of the requests that a connection hands out under `Lenient`, up to `most`, if its client
+/// sends these bytes and each request is dropped before the next is received.
 pub fn plain_lines(alloc: Global, bytes: &[u8], most: usize) -> Result<Vec<Vec<u8>>, AllocError> {
     let mut lines = Vec::new(alloc);
     let mut rest = bytes;

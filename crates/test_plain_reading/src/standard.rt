@@ -304,7 +304,8 @@ impl<'a> StandardHead<'a> {
             || is_continue_alone(header.1.as_str()))
     }
 
-    // Returns the length that all Content-Length fields state, or `None` if one is invalid or they differ.
+    // Returns the length that all Content-Length fields state, or `None` if there is no such field, one is invalid, or
+    // they differ.
     fn length(&self) -> Option<usize> {
         let length = length_in(self.value("Content-Length")?)?;
         self.headers
@@ -384,8 +385,8 @@ impl<'a> StandardHead<'a> {
     }
 }
 
-/// Returns the reply lines of the first `most` requests, or fewer, that these bytes contain under `Standard` if each
-/// request is dropped before the next is received.
+/// Returns the reply lines of the requests that a connection hands out under `Standard`, up to `most`, if its client
+/// sends these bytes and each request is dropped before the next is received.
 pub fn standard_lines(
     alloc: Global,
     bytes: &[u8],

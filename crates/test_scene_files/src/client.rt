@@ -35,7 +35,7 @@ const DATE_LENGTH: usize = 35;
 // The Date field line that replaces all others before texts are compared.
 const DATED: &[u8] = b"Date: Wed, 04 May 1983 11:17:00 GMT";
 
-/// How a connection ended.
+// How a connection ended.
 #[derive(Clone, Copy, Debug, PartialEq, Eq)]
 enum End {
     Closed,
@@ -138,7 +138,8 @@ impl Client {
         }
     }
 
-    // Reads once, until the read timeout at most, and keeps the bytes or how the connection ended.
+    // Reads once, and keeps the bytes, or how the connection ended. If the read times out or is interrupted, changes
+    // nothing.
     fn read_once(&mut self) -> Result<(), AllocError> {
         let mut piece = [0u8; PIECE];
         match self.socket.read_shared(&mut piece) {
@@ -239,8 +240,8 @@ impl Client {
         demand(self.alloc, "no send fails before its time", is_late)
     }
 
-    /// Reads at most `count` bytes after each pause of `millis` milliseconds, a hundred times or until the end of
-    /// input, and discards them.
+    /// Reads up to `count` bytes after each pause of `millis` milliseconds, a hundred times or until the end of input,
+    /// and discards them. Ignores failed reads.
     pub fn sip<R: Clock>(&mut self, rt: &R, count: usize, millis: u64) -> Result<(), Mishap> {
         let mut piece = vec![in self.alloc; 0u8; count]?;
         for _ in 0..SIPS {

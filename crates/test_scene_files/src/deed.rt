@@ -21,8 +21,8 @@ pub enum ClientDeed<'a> {
     DripsOn(&'a str, u64, (u64, u64)),
     /// Sends this text repeatedly until a send fails, and expects such a failure.
     IsCutOff(&'a str),
-    /// Reads at most this many bytes a hundred times, or until the end of input, with this pause in milliseconds before
-    /// each read.
+    /// Reads up to this many bytes at a time, a hundred times or until the end of input, with this pause in
+    /// milliseconds before each read.
     Sips(usize, u64),
     /// Expects this text as the next bytes, once `client::dated` has replaced the dates among them.
     Gets(&'a str),
@@ -61,9 +61,9 @@ pub enum Given<'a> {
 /// A call on the server, or an expectation about its state.
 #[derive(Clone, Copy)]
 pub enum ServerDeed<'a> {
-    /// Expects a request for this target, received in the scene's way (`Way`), and names it.
+    /// Expects a request for this target, received in the scene's way (`Way`), and stores it under this name.
     Gives(&'a str, &'a str),
-    /// Expects that the handler of `serve` has kept a request for this target, and names it.
+    /// Expects that the handler of `serve` has kept a request for this target, and stores it under this name.
     Keeps(&'a str, &'a str),
     Recv(Given<'a>),
     TryRecv(Given<'a>),
@@ -136,11 +136,12 @@ pub enum Data<'a> {
     /// No body, and the connection closes after the response.
     Closing,
     Json(&'a str),
-    /// This many bytes, with a content length.
+    /// This many bytes, in a response built with their length. The response is sent in chunks only if the request's
+    /// `TE` asks for chunks.
     Bytes(usize),
-    /// This many bytes, without a content length.
+    /// This many bytes, in a response built without their length.
     Unsized(usize),
-    /// This text, with this number as the stated content length.
+    /// This text, in a response built with this number as its length.
     Short(usize, &'a str),
 }
 
@@ -194,17 +195,17 @@ pub enum RequestDeed<'a> {
     Lends(&'a str, &'a str),
     /// Expects that the request is a `GET` from the client of this name, without TLS.
     IsPlainOf(&'a str),
-    /// Turns the request into its raw writer, and names the writer.
+    /// Turns the request into its raw writer, and stores the writer under this name.
     IntoWriter(&'a str),
-    /// Begins a streaming response with this status, and names it. If the flag is set, the connection closes after the
-    /// response.
+    /// Begins a streaming response with this status, and stores its body under this name. If the flag is set, the
+    /// connection closes after the response.
     Streams(u16, &'a str, bool),
     /// Expects that `respond_streaming` with this status fails with this error.
     StreamsNot(u16, ErrorKind),
-    /// Upgrades the request to this protocol, and names the stream.
+    /// Upgrades the request to this protocol, and stores the stream under this name.
     Upgrades(&'a str, &'a str),
-    /// Upgrades the request with `try_upgrade`, which succeeds only if the head asks for this protocol, and names the
-    /// stream.
+    /// Upgrades the request to this protocol with `try_upgrade`, which refuses the upgrade if the head doesn't ask for
+    /// this protocol. Stores the stream under this name.
     TriesUpgrade(&'a str, &'a str),
     /// Expects that `try_upgrade` to this protocol returns the request for this reason.
     KeepsUpgrade(&'a str, Kept),
@@ -272,7 +273,7 @@ pub enum Deed<'a> {
     Waits(&'a str),
 }
 
-/// Time in milliseconds within which a thread or job must end if its step states none.
+// Time in milliseconds within which a thread or job must end if its step states none.
 const LONGEST: u64 = 10_000;
 
 // Parses a decimal number, such as a number of milliseconds.

@@ -102,12 +102,12 @@ pub enum Made<'a> {
 /// A step on a connection or a request over memory.
 #[derive(Clone, Copy)]
 pub enum MemoryDeed<'a> {
-    /// Limits the writers of all clients and requests created later: each accepts this many bytes and then fails with
-    /// this kind.
+    /// Limits the writers of all clients and requests created later: each accepts this many bytes, after which every
+    /// non-empty write fails with this kind.
     Takes(usize, ErrorKind),
     /// Creates a client that sends this text and then ends its output.
     Sends(&'a str),
-    /// Expects that the next request is for this target, and names it.
+    /// Expects that the next request is for this target, and stores it under this name.
     Gives(&'a str, &'a str),
     /// Expects no further request.
     GivesNothing,
@@ -191,7 +191,7 @@ pub enum TurnsDeed<'a> {
     Read(&'a str),
     /// Creates a sequence of writers that together accept this many bytes in memory.
     Write(usize),
-    /// Takes the next reader or writer of the sequence, and names it.
+    /// Takes the next reader or writer of the sequence, and stores it under this name.
     Next(&'a str),
     /// Expects that exactly this text was written by all writers together.
     Wrote(&'a str),

@@ -72,8 +72,8 @@ impl<R: Wait + Drop> Props<R> {
         }
     }
 
-    /// Returns the client over memory and the bytes written so far. Fails if the scene doesn't run over memory, and in
-    /// the props of a thread, which have neither.
+    /// Returns the client over memory and the bytes written so far. Fails if the scene doesn't run over memory, or if
+    /// these are the props of a thread, which have neither.
     pub fn memory(&mut self) -> Result<&mut Memory<R>, Mishap> {
         match &mut self.memory {
             Some(memory) => Ok(memory),

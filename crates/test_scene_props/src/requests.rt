@@ -101,8 +101,8 @@ fn respond_empty<D: ReadDevice + Drop, W: WriteDevice + Drop, R: Wait + Clock + 
     request.respond(response, date_now(rt))
 }
 
-// Responds with this status and `count` bytes. If `is_sized`, the response states their length, and is sent in chunks
-// only if the request's `TE` asks for them; otherwise its length is unknown.
+// Responds with this status and `count` bytes. If `is_sized`, the response is built with their length, and is sent
+// in chunks only if the request's `TE` asks for chunks. Otherwise, it is built without a length.
 fn respond_bytes<D: ReadDevice + Drop, W: WriteDevice + Drop, R: Wait + Clock + Drop>(
     rt: &R,
     alloc: Global,
@@ -262,8 +262,9 @@ fn demand_property(
     demand(alloc, words, came == wanted)
 }
 
-// Checks one property of a request: a header field, a token that its header fields list, its path or query, or whether
-// it asks for an upgrade, came over TLS, or would lose its response. Passes any other step on to `look_whole`.
+// Checks one property of a request: a header field, whether a token is listed in its header fields of a name, its path
+// or query, or whether it asks for an upgrade, came over TLS, or would lose its response. Hands any other step to
+// `look_whole`.
 fn look<D: ReadDevice + Drop, W: WriteDevice + Drop, R: Wait + Clock + Drop>(
     alloc: Global,
     request: &Request<D, W, R>,
@@ -319,7 +320,8 @@ fn look_whole<D: ReadDevice + Drop, W: WriteDevice + Drop, R: Wait + Clock + Dro
     }
 }
 
-// Borrows a request's head and body together, and expects `path` and, as the rest of the body, `wanted`.
+// Borrows a request's head and body together. Expects `path` as the target's path, and `wanted` as the rest of the
+// body.
 fn demand_parts<D: ReadDevice + Drop, W: WriteDevice + Drop, R: Wait + Clock + Drop>(
     rt: &R,
     alloc: Global,
@@ -427,7 +429,8 @@ fn begin_answer<D: ReadDevice + Drop, W: WriteDevice + Drop, R: Wait + Drop>(
     Ok((request, Response::empty(alloc, StatusCode(status))))
 }
 
-// Expects that `try_upgrade` refuses an upgrade for this reason, and puts the request back.
+// Expects that `try_upgrade` refuses an upgrade for the reason `why`. If it refuses, for whatever reason, puts the
+// request back.
 fn keep_upgrade<D: ReadDevice + Drop, W: WriteDevice + Drop, R: Wait + Clock + Drop>(
     rt: &R,
     alloc: Global,
@@ -451,7 +454,7 @@ fn keep_upgrade<D: ReadDevice + Drop, W: WriteDevice + Drop, R: Wait + Clock + D
     }
 }
 
-// Turns a request into its raw writer, and names the writer.
+// Turns a request into its raw writer, and stores the writer under the name `output`.
 fn into_writer<D: ReadDevice + Drop, W: WriteDevice + Drop, R: Wait + Clock + Drop>(
     alloc: Global,
     asked: &mut Asked<D, W, R>,
@@ -462,7 +465,8 @@ fn into_writer<D: ReadDevice + Drop, W: WriteDevice + Drop, R: Wait + Clock + Dr
     add(alloc, &mut asked.outputs, output, Output::Raw(writer))
 }
 
-// Begins a streaming response, and names it. If `is_last`, the connection closes after the response.
+// Begins a streaming response, and stores its body under the name `output`. If `is_last`, the connection closes after
+// the response.
 fn respond_streaming<D: ReadDevice + Drop, W: WriteDevice + Drop, R: Wait + Clock + Drop>(
     rt: &R,
     alloc: Global,
@@ -478,7 +482,8 @@ fn respond_streaming<D: ReadDevice + Drop, W: WriteDevice + Drop, R: Wait + Cloc
     }
 }
 
-// Upgrades a request, with `try_upgrade` if `is_tried` and with `upgrade` otherwise, and names the stream.
+// Upgrades a request, with `try_upgrade` if `is_tried` and with `upgrade` otherwise, and stores the stream under the
+// name `output`.
 fn upgrade<D: ReadDevice + Drop, W: WriteDevice + Drop, R: Wait + Clock + Drop>(
     rt: &R,
     alloc: Global,

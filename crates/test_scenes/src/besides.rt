@@ -30,7 +30,7 @@ pub(crate) struct Done<R: Net + SocketFiles + Wait + Clock + Drop> {
 #[derive(Drop)]
 enum Player<R: Net + SocketFiles + Wait + Clock + Drop> {
     Thread(JoinHandle<Done<R>>),
-    /// A pool job. When it is done, it pushes its failure here, or `None` if no step failed.
+    // A pool job. When it is done, it pushes its failure here, or `None` if no step failed.
     Job(Arc<MessagesQueue<Option<Failure>>>),
 }
 

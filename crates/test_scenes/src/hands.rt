@@ -64,8 +64,8 @@ impl<R: Net + SocketFiles + Wait + Clock + Drop> Hands<R> {
         }
     }
 
-    /// Takes out what `lines` need: the requests, outputs and props that they name, and another handle to the server if
-    /// they name it.
+    /// Takes out what `lines` need: the requests, outputs and props that they name. Adds copies of the handles to the
+    /// handler and, if the lines name it, to the server, and a copy of the server's address.
     pub(crate) fn part(&mut self, alloc: Global, lines: &[Line]) -> Result<Hands<R>, AllocError> {
         let props = self.props.part(alloc, lines)?;
         let handler = Arc::try_clone(&self.handler)?;

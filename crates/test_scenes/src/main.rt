@@ -1,5 +1,6 @@
 //! Plays the scenes of files: `test_scenes FILE..`. A scene lists step by step what a server and its clients do and
-//! what each of them observes. Several scenes run in parallel. docs/CASES.md describes the files.
+//! what each of them observes. Several scenes run in parallel, except those that must run alone. docs/CASES.md
+//! describes the files.
 #![tactic(auto)]
 
 mod besides;
@@ -49,7 +50,8 @@ impl Checker for SceneFiles {
     }
 }
 
-// Plays a scene. The path for its Unix socket contains the process id and the scene's number in its group.
+// Plays a scene, and returns its failure, if any. The path for its Unix socket contains the process id and the scene's
+// number in its group.
 fn play_at<R: Host>(
     rt: &R,
     alloc: Global,
@@ -102,7 +104,8 @@ fn play_group<R: Host, O: Write>(
     Ok(failed)
 }
 
-// Plays the scenes of a file, and prints their number and how many had the wrong outcome. Returns whether none had.
+// Plays the scenes of a file. Prints one line for each that fails, and one with the number of scenes and the number of
+// those that had the wrong outcome. Returns whether none had.
 fn play_file<R: Host, O: Write>(
     rt: &R,
     alloc: Global,

@@ -122,7 +122,8 @@ fn play_line<R: Host>(
     }
 }
 
-// Plays the steps of a scene until one fails. Skips indented steps, which their threads and jobs play.
+// Plays the steps of a scene until one fails. Skips indented steps, which their threads and jobs play. Returns the
+// failure, if any.
 fn play_all<R: Host>(
     rt: &R,
     alloc: Global,
@@ -179,9 +180,9 @@ fn wait_until_served<R: Host>(rt: &R, alloc: Global, hands: &mut Hands<R>) -> Re
     Ok(())
 }
 
-// Ends a scene. First drops requests, outputs and clients, so that nothing waits for them. Then unblocks the thread
-// that calls `serve`, if there is one, which must end without an error. Fails if a thread or job is left whose end no
-// step has awaited.
+// Ends a scene. First drops requests, outputs, the readers and writers that take turns, and clients, so that nothing
+// waits for them. Then unblocks the thread that calls `serve`, if there is one, which must end without an error. Fails
+// if a thread or job is left whose end no step has awaited.
 fn clear<R: Host>(rt: &R, alloc: Global, stage: &mut Stage<R>) -> Result<(), Mishap> {
     stage.hands.served.clear();
     stage.hands.props.clear();

@@ -192,7 +192,7 @@ fn take_given<R: Host>(
     }
 }
 
-// Returns the next request that the handler kept, waiting at most `LONGEST` seconds.
+// Returns the next request that the handler has kept, or `None` if there is none within `LONGEST` seconds.
 fn next_kept<R: Host>(rt: &R, hands: &Hands<R>) -> Option<ServerRequest<R>> {
     let most = Duration::from_secs(LONGEST);
     hands.handler.kept.pop_timeout(rt, most)
@@ -227,8 +227,8 @@ fn received<R: Host>(hands: &Hands<R>) -> Result<io::Result<Option<ServerRequest
     })
 }
 
-// Calls `try_recv` once if no request is expected, and otherwise until it returns a request or an error, at most
-// `TURNS` times.
+// Calls `try_recv` once if `given` is `Nothing`, and otherwise until it returns a request or an error, at most `TURNS`
+// times.
 fn tried<R: Host>(
     rt: &R,
     hands: &Hands<R>,
@@ -285,8 +285,8 @@ fn count_in(counts: &Counts, field: &str) -> Option<u64> {
     })
 }
 
-// Waits until the counter called `field` has reached `wanted`. Fails if that takes more than `TURNS` checks, or if the
-// counter is greater than `wanted` and `may_be_above` is false.
+// Waits until the counter called `field` has reached `wanted`. Fails if there is no such counter, if that takes more
+// than `TURNS` checks, or if the counter is then greater than `wanted` and `may_be_above` is false.
 fn demand_count<R: Host>(
     rt: &R,
     alloc: Global,
@@ -333,8 +333,8 @@ fn link_beside<R: Host>(rt: &R, alloc: Global, addr: &ListenAddr) -> Result<(), 
     }
 }
 
-// Expects that nobody listens at the server's address. For TCP, waits until the address is free. For a Unix socket,
-// checks once, through the second name of its file, and removes that name.
+// Expects that nobody listens at the server's address. For TCP, waits until the address is free, at most `TURNS` checks
+// long. For a Unix socket, checks once, through the second name of its file, and removes that name.
 fn demand_free<R: Host>(rt: &R, alloc: Global, addr: &ListenAddr) -> Result<(), Mishap> {
     let ListenAddr::IP(addr) = addr else {
         let link = path_beside(alloc, addr)?;
@@ -382,8 +382,8 @@ fn stop<R: Host>(
     demand_text(alloc, wanted, came)
 }
 
-// Drops the scene's handle to the server, and with it the server unless a thread has another handle. Fails if there is
-// none.
+// Drops the scene's handle to the server, and with it the server unless a thread has another handle. Fails if the scene
+// has no handle to a server.
 fn let_go<R: Host>(hands: &mut Hands<R>) -> Result<(), Mishap> {
     match hands.server.take() {
         Some(server) => {
@@ -415,7 +415,7 @@ fn serve_by<R: Host>(
     demand_fault(alloc, wanted, served.err().map(|fault| fault.kind()))
 }
 
-/// Runs a step that receives a request. Passes any other step on to `act_rival`.
+// Runs a step that receives a request. Hands any other step to `act_rival`.
 fn act_giving<R: Host>(
     rt: &R,
     alloc: Global,
@@ -486,7 +486,7 @@ pub(crate) fn act_server<R: Host>(
     }
 }
 
-/// Connects a client to the scene's server, and names it.
+/// Connects a client to the scene's server, and stores it under the name `name`.
 pub(crate) fn connect<R: Host>(
     rt: &R,
     alloc: Global,

@@ -37,7 +37,8 @@ fn write_rounds<R: Host>(rt: &R, mut writer: HalfWriter<R>, barrier: &Barrier) {
     }
 }
 
-// Asserts that the byte arrives once the write and `send` are done, and the rest at the flush.
+// Asserts that the byte arrives once the piece has been written and `send` has returned, and that the piece has arrived
+// once the writer has been flushed.
 fn assert_round<R: Host>(
     rt: &R,
     peer: &mut UnixStream,

@@ -14,7 +14,7 @@ fn kind_of<B: Read>(body: &mut B) -> Option<ErrorKind> {
 // A request whose body has 2000 bytes, of which 10 arrive.
 const CUT: &[u8] = b"POST / HTTP/1.1\r\nContent-Length: 2000\r\n\r\n0123456789";
 
-// An interrupted read is an error, and `read_exact` does not retry it.
+// An interrupted read is an error: `read_exact` does not retry it, and the next read fails in the same way.
 #[test]
 fn an_interrupted_body_is_a_fault(rt: HostRuntime) -> Result<(), Fail> {
     let alloc = rt.alloc();

@@ -49,7 +49,8 @@ fn fault_of(corked: &mut Corked<Budget>) -> Option<ErrorKind> {
     corked.write_out(b"x").err().map(|fault| fault.kind())
 }
 
-// Asserts that an error in sending the buffered bytes is reported once, by the next write.
+// Asserts that an error in sending the buffered bytes is reported once, by the next write, and is counted as a failure
+// only then.
 fn assert_tells_once(rt: &impl Abort, alloc: Global) {
     let mut corked = corked_of(rt, alloc, 3);
     assert_takes(rt, &mut corked, b"abcd");

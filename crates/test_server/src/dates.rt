@@ -24,7 +24,8 @@ impl Clock for FixedClock {
     }
 }
 
-// Asserts that a clock at `millis` milliseconds, or one that can't be read, gives the date at `wanted` seconds.
+// Asserts that `current_date` returns the date of Unix second `wanted` if the clock is at `millis` milliseconds, or, if
+// `millis` is `None`, can't be read.
 fn assert_seconds(rt: &impl Abort, millis: Option<u64>, wanted: u64) {
     let found = current_date(&FixedClock(millis));
     let wanted = HttpDate::from_unix_secs(wanted).expect(rt, "a date");

@@ -46,7 +46,8 @@ pub fn send<S: Write>(rt: &impl Abort, stream: &mut S, text: &str) {
     send_bytes(rt, stream, text.as_bytes());
 }
 
-/// Reads once. Repeats a read that times out; after `TURNS` such reads, fails with `TimedOut`.
+/// Reads until a read does not time out, and returns the result of that read. After `TURNS` reads that timed out, fails
+/// with `TimedOut`.
 pub fn read_once<S: Read>(stream: &mut S, buf: &mut [u8]) -> io::Result<usize> {
     for _ in 0..TURNS {
         match stream.read(buf) {
@@ -125,7 +126,7 @@ pub fn text(alloc: Global, text: &str) -> Result<Response<io::Cursor<Vec<u8>>>, 
     Response::from_string(alloc, String::from_str(alloc, text)?)
 }
 
-/// Responds to a request with this text. Returns whether the response was sent without an error.
+/// Responds to a request with this text. Returns whether the response was built and sent without an error.
 pub fn respond<R: Clock + Wait + Drop>(
     rt: &R,
     alloc: Global,

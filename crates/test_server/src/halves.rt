@@ -87,7 +87,8 @@ fn assert_broken(rt: &impl Abort, written: io::Result<usize>) {
     assert_same(rt, fault.kind(), ErrorKind::BrokenPipe);
 }
 
-// Asserts that a connection can be read after its writing half is dropped, and is closed once both halves are dropped.
+// Asserts that a connection over a Unix socket is without TLS and has no peer address, that it can be read after its
+// writing half is dropped, and that it is closed once both halves are dropped.
 fn assert_halves_close_alone<R: Net + Abort>(rt: &R, alloc: Global) {
     let (ours, mut theirs) = UnixStream::pair(rt).expect(rt, "a pair");
     let (mut reader, mut writer) = halves_of(rt, alloc, ours);
@@ -143,7 +144,8 @@ fn handle_of(rt: &impl Abort, stream: &TcpStream) -> TcpStream {
     handle
 }
 
-// Asserts that a TCP connection can be read after its writing half is dropped, but not once both halves are dropped.
+// Asserts that the peer of a TCP connection reads the end once the writing half is dropped, and that the connection can
+// still be read then, but not once both halves are dropped.
 fn assert_halves_of_tcp<R: Host>(rt: &R, alloc: Global) {
     let (ours, mut theirs) = tcp_pair(rt);
     let mut handle = handle_of(rt, &ours);
@@ -246,7 +248,8 @@ fn a_client_over_tcp_has_an_address(rt: HostRuntime) {
     assert_client_over_tcp(&rt, rt.alloc());
 }
 
-// Asserts that a writing half counts the writes that fail after the peer has closed the connection.
+// Asserts that a writing half counts the writes that fail after the peer has closed the connection, and that an empty
+// write then returns 0.
 fn assert_failures<R: Net + Abort>(rt: &R, alloc: Global) {
     let (ours, theirs) = UnixStream::pair(rt).expect(rt, "a pair");
     let (_, mut writer) = halves_of(rt, alloc, ours);
@@ -290,7 +293,8 @@ fn addresses_of_tcp(rt: HostRuntime) {
     assert_addresses_of_tcp(&rt, rt.alloc());
 }
 
-// Asserts that a connection has exactly one request, for `/a` and without an address. Returns the request.
+// Asserts that a connection is without TLS and has exactly one request, which is for `/a` and has no client address.
+// Returns the request.
 fn assert_one_request<R: Host>(rt: &R, client: &mut Client<R>) -> ClientRequest<R> {
     assert_holds(rt, "it is without TLS", !client.secure());
     let request = next_of(rt, client).expect(rt, "a request");

@@ -73,8 +73,8 @@ fn pair_of<R: Host>(rt: &R, alloc: Global) -> Pair<R> {
     }
 }
 
-// Receives the next request. Then sends the buffered bytes, unless flushes may leave bytes buffered, as a worker of
-// `serve` does.
+// Receives the next request. Then, as a worker of `serve` does, sends the buffered bytes unless flushes may leave bytes
+// buffered.
 fn next_of<R: Host>(rt: &R, pair: &mut Pair<R>) -> Request<HalfReader, HalfWriter<R>, R> {
     let next = pair.client.next(current_date(rt)).expect(rt, "memory");
     pair.cork.send_unless_leaving();
@@ -194,7 +194,7 @@ fn what_a_program_flushes_is_sent(rt: HostRuntime) {
     assert_100(&rt, rt.alloc());
 }
 
-// Asserts that `write_both` sends two texts in order.
+// Asserts that one `write_both` accepts two texts and sends them in order, and that it returns 0 for two empty texts.
 fn assert_writes_both<R: Host>(rt: &R, alloc: Global) {
     let (ours, mut theirs) = UnixStream::pair(rt).expect(rt, "a pair");
     let halves = RefinedTcpStream::new(alloc, Connection::from(ours));

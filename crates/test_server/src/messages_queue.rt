@@ -143,7 +143,7 @@ fn assert_answered<R: Wait + Abort>(
     assert_same(rt, (round, answers.pop(rt)), (round, Some(wanted)));
 }
 
-// Returns whether less than 5 s have passed since `start`.
+// Returns whether less than 5 s have passed since `start`, or `false` if the clock can't be read.
 fn is_early<R: Clock>(rt: &R, start: &Instant) -> bool {
     start
         .elapsed(rt)

@@ -25,14 +25,15 @@ struct Shared<'a, L: Ledger, R: Net + SocketFiles + Wait + Clock + Drop> {
     roster: &'a Roster<L>,
 }
 
-// Responds to a request with its path.
+// Responds to a request with its path, or drops the request if memory is refused.
 fn answer_path<R: Host>(rt: &R, alloc: Global, request: ServerRequest<R>) {
     if let Ok(path) = String::from_str(alloc, request.url()) {
         respond(rt, alloc, request, path.as_str());
     }
 }
 
-// Responds to requests until the thread is unblocked, and enters the roster once for each request. Returns the share.
+// Responds to requests until `recv` fails, as it does once the thread is unblocked. Enters the roster once for each
+// request. Returns the share.
 fn answers<L: Ledger, R: Host>(rt: &R, shared: &Shared<'_, L, R>, mut mine: Share<L>) -> Share<L>
     requires { 0 < mine.parts }
     ensures { result.parts ≡ mine.parts }

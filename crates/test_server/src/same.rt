@@ -14,7 +14,7 @@ pub fn assert_holds(rt: &impl Abort, words: &str, holds: bool) {
     assert!(rt; holds, "not so: {words}");
 }
 
-/// Asserts how a value is displayed.
+/// Asserts that `value` is displayed as `wanted`.
 pub fn assert_shown<T: Display>(rt: &impl Abort, alloc: Global, value: &T, wanted: &str) {
     let shown = format!(in alloc; "{value}").expect(rt, "memory");
     assert_eq!(rt; shown.as_str(), wanted);

@@ -477,7 +477,8 @@ const PLAIN_STANDARD: &[[&str; 3]] = &[
 
 const STANDARD_CASE: &str = "case a\nprofile standard\nclient G\nask\n  ended\n";
 
-// Returns how the reply to a client's bytes differs from a plain reading, under the profile of the case in `file`.
+// Returns how the reply to a client's bytes differs from what `test_plain_reading` finds in them, under the profile of
+// the case in `file`.
 fn difference_of_plain(
     alloc: Global,
     file: &str,
@@ -589,7 +590,7 @@ fn a_trial_changes_what_the_client_sends(rt: HostRuntime) -> Result<(), Fail> {
     Ok(())
 }
 
-/// A runner that returns `once` if the reader fails once, and otherwise `found`.
+// A runner that returns `once` if the reader fails once, and otherwise `found`.
 #[derive(Drop)]
 struct Fixed {
     found: Found,

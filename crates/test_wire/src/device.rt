@@ -181,7 +181,7 @@ fn a_budget_takes_its_bytes_and_then_fails(rt: HostRuntime) -> Result<(), Fail> 
     Ok(())
 }
 
-// A budget is limited only by its room.
+// A budget with enough room accepts writes of more than 65,536 bytes, and more than 131,072 bytes in all.
 #[test]
 fn a_budget_takes_many_bytes(rt: HostRuntime) -> Result<(), Fail> {
     let bytes = [b'x'; 65_537];

@@ -95,7 +95,7 @@ impl Write for Flushes {
     }
 }
 
-// Neither a full chunk nor the end of the body is flushed.
+// Neither a full chunk nor the end of the body causes a flush.
 #[test]
 fn a_body_is_encoded_without_a_flush(rt: HostRuntime) -> Result<(), Fail> {
     let bytes = data(rt.alloc(), 20_000)?;
@@ -111,8 +111,8 @@ fn fault<T: Drop>(outcome: Result<T, io::Error>) -> Option<ErrorKind> {
     outcome.err().map(|e| e.kind())
 }
 
-// Asserts that a writer that fails after `room` bytes gets no more bytes, and that each later call on the encoder fails
-// with `BrokenPipe`.
+// Asserts that if the writer fails after `room` bytes, the encoder's write fails with the writer's error, each later
+// call on the encoder fails with `BrokenPipe`, and the writer gets no more bytes.
 fn assert_failed(rt: &impl Abort, alloc: Global, bytes: &[u8], room: usize) -> Result<(), Fail> {
     let whole = chunk(alloc, bytes)?;
     let mut writer = Metered::new(FailsOnce::new(alloc, room));

@@ -60,7 +60,8 @@ fn answers_of_data_and_of_none(rt: HostRuntime) -> Result<(), Fail> {
     Ok(())
 }
 
-// The request to which a response is printed: its version, its only field line, and the protocol of an upgrade, if any.
+// The request for which a response is printed: its version, its only field line, and the protocol of an upgrade, if
+// any.
 #[derive(Clone, Copy)]
 struct Asking {
     version: HTTPVersion,
@@ -92,7 +93,7 @@ fn print_into<R: ReadDevice + Drop, W: WriteDevice>(
     Ok(outcome.err().map(|e| e.kind()))
 }
 
-// Asserts the text of a printed response.
+// Asserts that a response to `PLAIN` is printed without an error, and that the printed text is `wanted`.
 fn assert_printed<R: ReadDevice + Drop>(
     rt: &impl Abort,
     alloc: Global,
@@ -180,7 +181,7 @@ fn builders_in_a_chain(rt: HostRuntime) -> Result<(), Fail> {
     assert_printed(&rt, alloc, answer, CHAINED)
 }
 
-// A second Content-Type replaces the first, the last valid length counts, and Connection is ignored.
+// A second Content-Type replaces the first, the last valid Content-Length sets the length, and Connection is ignored.
 #[test]
 fn headers_that_are_not_added(rt: HostRuntime) -> Result<(), Fail> {
     let alloc = rt.alloc();

@@ -15,7 +15,7 @@ pub(crate) fn assert_holds(rt: &impl Abort, words: &str, holds: bool) {
     assert!(rt; holds, "not so: {words}");
 }
 
-/// Asserts how a value is displayed.
+/// Asserts that `value` is displayed as `wanted`.
 pub(crate) fn assert_shown<T: Display>(
     rt: &impl Abort,
     alloc: Global,

@@ -8,7 +8,7 @@ use test_scene_files::mishap::{
     Mishap, demand, demand_bytes, demand_fault, demand_number, demand_text,
 };
 
-// Asserts the error message of an outcome, which is empty if there is no error.
+// Asserts that an outcome's error message is `wanted`, or that `wanted` is empty if there is no error.
 fn assert_said(
     rt: &impl Abort,
     alloc: Global,

@@ -19,7 +19,8 @@ fn sent(alloc: Global, form: StreamedForm, more: usize) -> Result<Vec<u8>, Fail>
     Ok(body.get_ref().bytes().to_vec(alloc)?)
 }
 
-// Bytes are buffered until they fill a piece of 8192 bytes, or are flushed.
+// In the forms `Chunks` and `Plain`, bytes are buffered until they fill a piece of 8192 bytes or are flushed. In the
+// form `Absent`, no bytes are sent.
 #[test]
 fn a_piece_is_sent_once_it_is_full(rt: HostRuntime) -> Result<(), Fail> {
     let alloc = rt.alloc();

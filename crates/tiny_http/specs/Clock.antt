@@ -3,7 +3,7 @@ use Rattle.std.specs.Prelude.{ℕ, ◌/◌, Option, Some, None, nat_lt, if◌the
 use Rattle.std.specs.Duration.{as_nanos}
 use Rattle.std.specs.declared.time.Duration.{Duration}
 
--- the whole seconds of a time since 1970, or 0 without a time or from the year 10000 on
+-- the whole seconds of a time since 1970, or 0 if there is no time or it is after the year 9999
 abbrev pub seconds_of : Option Duration → ℕ
 seconds_of None = 0
 seconds_of (Some time) =

@@ -111,8 +111,8 @@ fn close_in_stages<R: Clock>(rt: &R, socket: &Connection, has_limits: bool) {
     }
 }
 
-/// A client that was accepted. When it is dropped, its connection is closed, except as far as requests that are still
-/// held use it.
+/// A client that was accepted. When it is dropped, its connection is closed, or, if requests that are still held use
+/// the connection, once they no longer do.
 #[derive(Drop)]
 pub(crate) struct Client<R: Wait + Clock + Drop> {
     rt: R,
@@ -129,8 +129,8 @@ pub(crate) struct Client<R: Wait + Clock + Drop> {
 
 impl<R: Wait + Clock + Copy> Client<R> {
     // Puts the client's requests into the queue until there is no further one. Once the server serves with a handler,
-    // returns the next request instead of queuing it. A request is dropped if the queue has no room for it. After the
-    // server was closed nothing takes requests from the queue, so a thread that adds one then empties the queue.
+    // returns the next request instead of queuing it. A request is dropped if the queue has no room for it. Once the
+    // server has been closed, nothing takes requests from the queue, so a thread that adds one then empties the queue.
     fn read_requests(
         &mut self,
         messages: &Messages<R>,
@@ -155,7 +155,7 @@ impl<R: Wait + Clock + Copy> Client<R> {
     }
 
     // Hands the client's requests to a handler until there is no further one. Responses leave together. Once the server
-    // was closed, the next request is dropped and is the last.
+    // has been closed, the next request is dropped and is the last.
     fn answer_requests<H: Handler<R, ServerRequest<R>>>(&mut self, alloc: Global, handler: &H) {
         let Ok(flush_policy) = Arc::try_clone(self.cork.flush_policy()) else {
             return;
@@ -192,8 +192,8 @@ pub(crate) struct Arrival<R: Wait + Clock + Drop> {
 }
 
 impl<R: Wait + Clock + Copy> Arrival<R> {
-    // Puts the client into the queue. Once the server was closed nothing takes a client from the queue, which is then
-    // emptied.
+    // Puts the client into the queue. Once the server has been closed, nothing takes a client from the queue, which is
+    // then emptied.
     fn put(self, rt: &R, messages: &Messages<R>, ending: &Ending) {
         let _ = messages.push(rt, Message::NewClient(self));
         if ending.is_closed() {
@@ -202,7 +202,7 @@ impl<R: Wait + Clock + Copy> Arrival<R> {
     }
 
     /// Hands the client's requests to a handler, waits until all are answered, and closes the connection. Once the
-    /// server was closed, the next request is dropped and is the last.
+    /// server has been closed, the next request is dropped and is the last.
     pub fn answer_by<H: Handler<R, ServerRequest<R>>>(&mut self, alloc: Global, handler: &H) {
         let next = self.next.take();
         if self.client.ending.is_closed() {

@@ -27,7 +27,7 @@ impl Ending {
         !self.is_closed.swap(true, Ordering::SeqCst)
     }
 
-    /// Returns whether no further client is accepted.
+    /// Returns whether `close` has been called: no further client is to be accepted.
     pub fn is_closed(&self) -> bool {
         self.is_closed.load(Ordering::SeqCst)
     }

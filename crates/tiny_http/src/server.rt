@@ -442,7 +442,8 @@ impl<R: Net + SocketFiles + Wait + Clock + Drop> Server<R> {
     /// waits for the next call to `serve`, `recv` fails at once with kind `Other`, as if `unblock` had been called.
     ///
     /// Once the server has been stopped, each call fails with kind `Other`. A server with limits doesn't hand out a
-    /// request if an earlier response on its connection broke off: the response to the request would be lost.
+    /// request if an earlier response on its connection broke off or ended the output: the response to the request
+    /// would be lost.
     pub fn recv(&self) -> io::Result<ServerRequest<R>> {
         for _ in self.rt.forever() {
             let popped = self.messages.pop(&self.rt);
@@ -561,7 +562,7 @@ impl<R: Net + SocketFiles + Wait + Clock + Drop> Server<R> {
         }
     }
 
-    // Returns whether the server was stopped, and all was answered or the time was over.
+    // Returns whether a call to `stop` has finished its wait: all was answered, or the time was over.
     pub(crate) fn has_stopped(&self) -> bool {
         self.ending.has_stopped()
     }

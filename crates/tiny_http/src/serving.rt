@@ -79,8 +79,8 @@ impl<R: ServerRuntime> Server<R> {
     /// `Standard`, and at the end. A flush of a raw writer, of an upgraded stream or of a streamed body sends it too,
     /// and so does a 100.
     ///
-    /// Once the first workers run the server serves, even after this call has returned: clients that come then wait for
-    /// the next call. The clients whose workers have begun are served until the clients or the server end.
+    /// Once the first workers run, the server serves, even after this call has returned: clients that come then wait
+    /// for the next call. The clients whose workers have begun are served until the clients or the server end.
     ///
     /// A client that reads no response blocks its worker once the socket takes no more, and its further requests aren't
     /// read then: a client that sends many requests has to read meanwhile.

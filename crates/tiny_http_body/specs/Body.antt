@@ -154,13 +154,13 @@ abbrev pub is_skipped : Remainder → Bool
 is_skipped left.Skipped = true
 is_skipped _ = false
 
--- the body that an upgraded connection reads, given whether it is under `Standard`: then all further input, and
+-- the body that an upgraded connection reads, given whether it is under `Standard`: all further input if so, and
 -- otherwise the body of its request
 abbrev pub stream_body : Bool → UnreadBody → UnreadBody
 stream_body true b = Rest
 stream_body false b = b
 
--- the end or fault that each further read of the body reports, if the body keeps it
+-- the end or fault that each further read of the body reports, if the body is over
 abbrev pub body_stop : UnreadBody → Option Stop
 body_stop (Over stop) = Some stop
 body_stop (WithHead bytes) = None
@@ -208,7 +208,7 @@ ReadsOn (Chunked decoding) n end_reported new =
     MatchBool end_reported (IsBodyOver new) (IsChunkedBy (decoding_rules decoding) new)
 ReadsOn Rest n end_reported new = MatchBool end_reported (IsBodyOver new) (new ≡ Rest)
 
--- the number of bytes that a call returned
+-- the number of bytes that a call returned, or 0 if it failed
 abbrev pub bytes_given : {E : Type 0} → Result ℕ E → ℕ
 bytes_given (Ok n) = n
 bytes_given (Err e) = 0
@@ -242,7 +242,8 @@ body_finished form.Counted n given end_reported = given == n || end_reported
 body_finished form.Chunked n given end_reported = end_reported
 body_finished form.Rest n given end_reported = end_reported
 
--- whether a finished body of this form may have this stop: a body in memory is never over, and an absent body has ended
+-- whether a finished body of this form may have this stop: a body that came with its head (`WithHead`) is never over,
+-- and an absent body (`Nothing`) is over without a fault
 abbrev pub MayBeOver : Form → Stop → Type 0
 MayBeOver form.WithHead stop = ⊥
 MayBeOver form.Nothing stop = stop ≡ End

@@ -12,7 +12,7 @@ field_step Name b = if is_token_byte b then Name else (if b == colon then Value 
 field_step Value b = if is_value_byte b then Value else Wrong
 field_step Wrong b = Wrong
 
--- whether the bytes so far are a field line
+-- whether the bytes that lead to this state are a field line
 abbrev pub is_whole_field : Field → Bool
 is_whole_field Empty = false
 is_whole_field Name = false

@@ -68,7 +68,8 @@ AreNeeded rules gone =
     → 0 < length more
     → ChunkLineFaultBy rules front stop (fault_of stop)
 
--- whether there is no line where one must be, with a fault of this kind, and some of the bytes there were consumed
+-- whether there is no line where one must be, with a fault of this kind, and no more bytes were consumed than show the
+-- fault
 pub record NoLine (rules : ChunkRules) (old new : Option Feed) (kind : ErrorKind) : Type 0 where
   pub gone : List ℕ
   pub gives : old ≡ prepended gone new

@@ -42,13 +42,13 @@ abbrev pub is_trailer_by : ChunkRules → List ℕ → Bool
 is_trailer_by Lenient text = true
 is_trailer_by Standard text = is_field_behind false text
 
--- whether there is an LF before the first CR LF
+-- whether there is an LF before the first CR LF, or anywhere if there is no CR LF
 abbrev pub has_lone_feed : List ℕ → Bool
 has_lone_feed [] = false
 has_lone_feed (a ∷ []) = a == line_feed
 has_lone_feed (a ∷ b ∷ bs) = if (a == 13 && b == 10) then false else (a == line_feed || has_lone_feed (b ∷ bs))
 
--- the result of decoding a chunked body: its data, and the rest after it or the fault
+-- the result of decoding a chunked body: its data, and either the bytes after the body or the fault
 pub record Decoded : Type 0 where
   pub body : List ℕ
   pub ends : Result (List ℕ) ErrorKind
@@ -116,6 +116,6 @@ abbrev pub decoded_by : ChunkRules → ℕ → Stop → List ℕ → Decoded
 decoded_by rules zero stop bytes = broken [] InvalidData
 decoded_by rules (suc fuel) stop bytes = chunk_in rules (decoded_by rules fuel stop) stop (line_by rules stop bytes)
 
--- the result of decoding a chunked body under `Lenient`
+-- the result of decoding a chunked body under `Lenient`, in which at most `fuel` chunk-size lines are read
 abbrev pub decoded : ℕ → Stop → List ℕ → Decoded
 decoded fuel stop bytes = decoded_by Lenient fuel stop bytes

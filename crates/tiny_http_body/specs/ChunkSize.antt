@@ -60,7 +60,7 @@ size_value (Behind value) = Some value
 size_value (Extension value) = Some value
 size_value Wrong = None
 
--- whether the value fits in the digits that were read
+-- whether the value of the digits read so far fits in their count, which is at most 16
 abbrev pub SizeFits : Size → Type 0
 SizeFits Blank = ⊤
 SizeFits (Digits value count) = (value < 16 ^ count) × (count ≤ 16)

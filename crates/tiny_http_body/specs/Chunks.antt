@@ -59,7 +59,7 @@ SizeTextBy Standard text size =
 abbrev pub IsShortLine : List ℕ → Type 0
 IsShortLine text = (length text ≤ longest_line) × (has_crlf text ≡ false)
 
--- whether the text is a line that isn't too long, under these rules; under `Standard` the line ends at its first LF
+-- whether the text is a line that isn't too long, under these rules; under `Standard` it also has no LF
 abbrev pub IsShortLineBy : ChunkRules → List ℕ → Type 0
 IsShortLineBy Lenient text = IsShortLine text
 IsShortLineBy Standard text = IsShortLine text × HasNo line_feed text
@@ -94,7 +94,7 @@ abbrev pub TrailerTextBy : ChunkRules → List ℕ → Type 0
 TrailerTextBy Lenient text = 0 < length text
 TrailerTextBy Standard text = FieldText text
 
--- whether the text is a line of the trailer section, which is skipped
+-- whether the text is a line of a trailer section under these rules; the section is skipped
 abbrev pub IsTrailerLineBy : ChunkRules → List ℕ → Type 0
 IsTrailerLineBy rules text = IsShortLineBy rules text × TrailerTextBy rules text
 
@@ -174,8 +174,8 @@ pub data Remainder : Type 0 where
   CutTrailer : (last : List ℕ) (trailers : List (List ℕ)) (next : List ℕ) → Remainder
   LongTrailer : (last : List ℕ) (trailers : List (List ℕ)) (next : List ℕ) → Remainder
 
--- whether a body breaks off in this way after its whole chunks: `part` is the data of the next chunk that are there,
--- and `kind` the fault
+-- whether a body breaks off in this way after its whole chunks: `part` is what has come of the next chunk's data, and
+-- `kind` is the kind of the fault
 abbrev pub RemainderBreaksBy : ChunkRules → Remainder → List ℕ → Stop → List ℕ → ErrorKind → Type 0
 -- no chunk-size line
 RemainderBreaksBy rules NoSizeLine bytes stop part kind = (part ≡ []) × ChunkLineFaultBy rules bytes stop kind

@@ -37,7 +37,7 @@ abbrev pub mentions : List ℕ → Option (List ℕ) → Bool
 mentions word None = false
 mentions word (Some value) = contains_word word (lowercase value)
 
--- the length that a value gives, if there is one, after an optional plus sign
+-- the length that a value gives, after an optional plus sign, if there is a value and it can be read as a length
 abbrev pub length_in_value : Option (List ℕ) → Option ℕ
 length_in_value None = None
 length_in_value (Some value) = length_in value
@@ -58,14 +58,14 @@ EndsWithChunked codings =
     × IsTrue (same_name last (codes "chunked"))
 
 -- THE LENGTH UNDER STRICT (RFC 9112, sections 6.1 to 6.3), according to the elements of Content-Length and
--- Transfer-Encoding: without codings it is the one length, or there is none; with codings alone the last one must be
--- chunked. With elements of both fields no length is valid.
+-- Transfer-Encoding: without codings it is the one length, or there is none; with codings alone there is no length, and
+-- the last coding must be chunked. With elements of both fields no length is valid.
 abbrev pub IsStrictLength : List (List ℕ) → List (List ℕ) → Option ℕ → Type 0
 IsStrictLength lengths [] n = IsOneLength lengths n
 IsStrictLength [] (coding ∷ codings) n = (n ≡ None) × EndsWithChunked (coding ∷ codings)
 IsStrictLength (length ∷ lengths) (coding ∷ codings) n = ⊥
 
--- whether this is the content length that the fields give, or they give none (`None`)
+-- whether `n` is the content length that the fields give under these rules, or `None` if they give none
 abbrev pub IsBodyLength : HeadRules → List Header → Option ℕ → Type 0
 IsBodyLength Lenient headers n = n ≡ lenient_length headers
 IsBodyLength Strict headers n =
@@ -76,7 +76,7 @@ abbrev pub expectation : Option (List ℕ) → Option Bool
 expectation None = Some false
 expectation (Some value) = if same_name value (codes "100-continue") then Some true else None
 
--- whether the first Connection value contains the word upgrade
+-- whether the first Connection value contains the word upgrade, case-insensitively
 abbrev pub names_upgrade : List Header → Bool
 names_upgrade headers = mentions (codes "upgrade") (value_of (codes "Connection") headers)
 
@@ -95,7 +95,8 @@ IsForm WithHead upgrade coded owed n =
 IsForm Counted upgrade coded owed n =
     (upgrade ≡ false) × (coded ≡ false) × (m : ℕ) × (n ≡ Some m) × (0 < m) × ((LONGEST_WITH_HEAD < m) ⊎ (owed ≡ true))
 
--- whether the connection ends after the request
+-- whether the connection ends after a request of this version with this first Connection value, if any: the value
+-- contains close or upgrade, or the version is 1.0 and the value doesn't contain keep-alive
 abbrev pub is_last : HTTPVersion → Option (List ℕ) → Bool
 is_last v connection =
     (mentions (codes "close") connection || mentions (codes "upgrade") connection)

@@ -23,13 +23,15 @@ pub record StreamedState (W : Type 0) : Type 0 where
 abbrev pub begun : {W : Type 0} → W → Sink → StreamedForm → StreamedState W
 begun writer sink form = record { writer = writer; sink = sink; form = form; held = []; failed = false }
 
--- a piece of a body as it is sent: as a chunk, if it isn't empty; as is; or not at all
+-- a piece of a body as it is sent in this form. `Chunks`: as one chunk, or not at all if it is empty. `Plain`: as is.
+-- `Absent`: not at all
 abbrev pub piece_text : StreamedForm → List ℕ → List ℕ
 piece_text Chunks bytes = short_chunk bytes
 piece_text Plain bytes = bytes
 piece_text Absent bytes = []
 
--- the end of a body as it is sent
+-- the end of a body as it is sent in this form: for `Chunks` the last chunk and an empty trailer section, otherwise
+-- nothing
 abbrev pub end_text : StreamedForm → List ℕ
 end_text Chunks = codes "0\r\n\r\n"
 end_text Plain = []
@@ -43,12 +45,12 @@ pieces_text form pieces = flat_map (piece_text form) pieces
 abbrev pub joined : List (List ℕ) → List ℕ
 joined pieces = flat_map (λ piece. piece) pieces
 
--- whether a piece has at most as many bytes as a chunk
+-- whether a piece has at most `CHUNK` bytes
 abbrev pub IsPiece : List ℕ → Type 0
 IsPiece bytes = length bytes ≤ CHUNK
 
 -- whether all bytes given to a body between two states of a writer were sent in pieces, except the held bytes, which
--- are fewer than a chunk
+-- are fewer than `CHUNK`
 pub record SentPieces (form : StreamedForm) (start now : Sink) (given held : List ℕ) : Type 0 where
   pub pieces : List (List ℕ)
   pub sent : Took start now (pieces_text form pieces)
@@ -68,7 +70,8 @@ pub record EndsStreamed (form : StreamedForm) (start now : Sink) (given : List �
   pub joins : given ≡ joined pieces
   pub bounds : AllByRecursion IsPiece pieces
 
--- whether bytes that don't fill a piece are held, and bytes that fill one are sent
+-- whether these bytes are all held if they are fewer than `CHUNK`, or are sent as one piece, with none held, if they
+-- are exactly `CHUNK`
 abbrev pub Holds : StreamedForm → Sink → Sink → List ℕ → List ℕ → Type 0
 Holds form old new held bytes =
     ((length bytes < CHUNK) × (new ≡ old) × (held ≡ bytes))

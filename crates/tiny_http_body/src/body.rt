@@ -362,8 +362,8 @@ impl UnreadBody {
     }
 
     /// Discards the rest of the body. The rest of a body with a `Content-Length` is skipped before the next head. After
-    /// a chunked body whose end or fault hasn't been reported, no head follows. If the body is the whole rest of the
-    /// input, the source is unchanged.
+    /// a chunked body whose end or fault hasn't been reported, no head follows. For any other body the source is
+    /// unchanged, even if the body is the whole rest of the input.
     pub fn give_up<R: ReadDevice>(&mut self, source: &mut Source<R>)
         ensures over { self.new ≡ UnreadBody.Over Stop.End }
         ensures gives_up { GivesUp self.old source.old source.new }

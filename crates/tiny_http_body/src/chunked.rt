@@ -31,8 +31,8 @@ pub const MOST_TRAILERS: usize = 128;
 /// The rules for the lines of a chunked body: its chunk-size lines and its trailer section.
 ///
 /// Under both sets of rules a chunk size has 1 to 16 hexadecimal digits of either case, and CR LF follows a chunk's
-/// data. A malformed line is reported once it has ended, except a lone LF under `Standard`. A line that is too long is
-/// reported before it ends.
+/// data. A malformed line is reported once it has ended, but a lone LF under `Standard` as soon as it is read. A line
+/// that is too long is reported before it ends.
 #[derive(Clone, Copy, Debug, PartialEq, Eq)]
 pub enum ChunkRules {
     /// A line ends at its first CR LF. The chunk size is the text before the first `;`, once bytes 9 and 32 around it

@@ -75,8 +75,8 @@ const SHORT: usize = 256;
 
 const SMALL: usize = 1024;
 
-/// Writes the first `n` bytes of the data, as they arrive. Fails with `UnexpectedEof` if the data end before that, or
-/// with the first fault of the data or the writer. After a failure nothing more is written.
+/// Writes the first `n` bytes of the data, as they arrive. Fails with `UnexpectedEof` if the data end after fewer than
+/// `n` bytes, or with the first fault of the data or the writer. After a failure nothing more is written.
 pub fn put_exactly<D: ReadDevice, W: WriteDevice>(
     source: &mut D,
     writer: &mut W,

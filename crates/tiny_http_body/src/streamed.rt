@@ -19,7 +19,7 @@ pub enum StreamedForm {
     Chunks,
     /// As is, ended by the end of the connection (RFC 9112, section 6.3).
     Plain,
-    /// Not at all, as in the response to a `HEAD`: what is written is discarded.
+    /// Not at all, because the response may have no content, for example after a `HEAD`: what is written is discarded.
     Absent,
 }
 

@@ -195,8 +195,8 @@ LacksAnswer method bytes lack =
 abbrev pub UnfinishedAnswer : Method → List ℕ → Type 0
 UnfinishedAnswer method bytes = LacksAnswer method bytes Unfinished
 
--- THE BYTES BREAK A RULE: whether a finished line of a head or a chunked body breaks one, or a head doesn't state the
--- length of its body.
+-- THE BYTES BREAK A RULE: whether a finished line of a head breaks one, or a chunked body does, or a body must follow a
+-- head that states neither chunks nor a valid length.
 abbrev pub MalformedAnswer : Method → List ℕ → Type 0
 MalformedAnswer method bytes = LacksAnswer method bytes Invalid
 

@@ -59,7 +59,7 @@ fn decimal_until(text: &[u8], c: u8, most: usize) -> Option<(usize, &[u8])>
     Some((number, after))
 }
 
-// Parses the version and the status of a status line (RFC 9112, section 4).
+// Parses the version and the status of a status line (RFC 9112, section 4). Returns `None` if the text isn't one.
 fn parse_status_line(text: &[u8]) -> Option<(HTTPVersion, StatusCode)>
     requires { AreAscii text.now }
     ensures { option_map status_line_of result ≡ status_line_read text.now }
@@ -132,7 +132,9 @@ fn read_status_line(rest: &mut Rest<'_>) -> Result<(HTTPVersion, StatusCode), Fa
     }
 }
 
-// Reads the next field line and returns its header, or reads the empty line and returns `None`.
+// Reads the next field line and returns its header, or reads the empty line and returns `None`. Fails with `Unfinished`
+// if the line isn't finished, with `Malformed` if it isn't empty and isn't a field line in ASCII, and with `Memory` if
+// memory for its header is refused.
 fn read_field_line(alloc: Global, rest: &mut Rest<'_>) -> Result<Option<Header>, Fault>
     ensures { ReadsFieldLine rest.old rest.new result }
 {

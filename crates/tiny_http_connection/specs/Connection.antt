@@ -1,4 +1,5 @@
--- How a `Connection` represents a state of a conversation. The laws of `InShort` can be understood without this file.
+-- How a `Connection` represents a state of a conversation. The laws of `InShort` (`tiny_http_connection_laws`) can be
+-- understood without this file.
 use Rattle.std.specs.Prelude.{◌≡◌, ℕ, ◌+◌, Bool, true, false, not, ◌&&◌, List, [], ◌∷◌, Option, Some, None, is_some}
 use Rattle.std.specs.Prelude.{MatchBool, ⊤}
 use Rattle.std.specs.Option.{option_map}
@@ -96,8 +97,8 @@ pub record HandedOut : Type 0 where
   pub owed : Bool
   pub closes : Bool
 
--- the slot of a request that was handed out as `h` states and awaits its response, with the number of body bytes that
--- were given out, and whether the body's end or fault was reported
+-- the slot of a request that was handed out as `h` states and awaits its response, after `given` bytes of its body were
+-- given out; `end_reported`: whether the body's end or fault was reported
 abbrev pub open_slot : HandedOut → Request → ℕ → Bool → Slot
 open_slot h r given end_reported =
     record (new_slot h.date (Asks r))
@@ -195,8 +196,8 @@ AreKept [] [] [] = Unit {0}
 AreKept (s ∷ slots) (m ∷ marks) (w ∷ requests) = IsKept s m w × AreKept slots marks requests
 AreKept _ _ _ = ⊥
 
--- whether nothing was sent under a number: no 100, and, unless it is finished, no other bytes; all the text of a
--- finished number is left for its turn
+-- whether nothing was sent under a number: no 100, and, unless the number is finished, no other bytes (the text of a
+-- finished number, which may be made already, waits for its turn)
 abbrev pub HasSentNothing : Slot → Type 0
 HasSentNothing s =
     (s.continued ≡ None) × (is_finished s ≡ false → (stage_text s.closes s.item s.date s.stage).bytes ≡ [])
@@ -211,7 +212,8 @@ AreSentInTurn (s ∷ slots) = MatchBool (is_finished s) (AreSentInTurn slots) (A
 abbrev pub IsSettled : Option Unfinished → Type 0
 IsSettled u = (is_streaming_body (kept_body u) ≡ false) × (holds_next_head_at (Some u) ≡ false)
 
--- whether, of these numbers, at most the last has a body that is read from the input, or holds the next head
+-- whether, of these numbers, only the last may have a body that is read from the input, or a response for which the
+-- next head waits
 abbrev pub AreSettled : List (Option Unfinished) → Type 0
 AreSettled [] = ⊤
 AreSettled (u ∷ []) = ⊤
@@ -222,7 +224,7 @@ abbrev pub behind_body : Option UnreadBody → Option Feed → Option Feed
 behind_body None feed = feed
 behind_body (Some b) feed = option_map (λ (r : Remaining). r.behind) (remaining b feed)
 
--- what is left of the body of this item after its first `given` bytes
+-- what is left of the body of this item after its first `given` bytes; nothing for a refused head
 abbrev pub rest_in : ℕ → Item → Feed
 rest_in given (Asks r) = rest_of r given
 rest_in given (Refuses refusal manner no_body last) = whole_feed []
@@ -230,18 +232,20 @@ rest_in given (Refuses refusal manner no_body last) = whole_feed []
 abbrev pub slot_rest : Slot → Feed
 slot_rest s = rest_in s.given s.item
 
--- whether the input gives, for the body that is kept of a number, what is left of the body of its slot
+-- whether the input gives, for the body that is kept of a number, what is left of the body of its slot; always true
+-- without a body or a slot
 abbrev pub GivesRest : Option UnreadBody → Option Slot → Option Feed → Type 0
 GivesRest None s feed = ⊤
 GivesRest (Some b) None feed = ⊤
 GivesRest (Some b) (Some s) feed = option_map (λ (r : Remaining). r.body) (remaining b feed) ≡ Some (slot_rest s)
 
--- what follows the body of this item
+-- what follows the body of this item; nothing for a refused head
 abbrev pub behind_item : Item → Feed
 behind_item (Asks r) = r.behind
 behind_item (Refuses refusal manner no_body last) = whole_feed []
 
--- whether the input gives, after the body that is kept of the last number, what follows the body of its slot
+-- whether the input gives, after the body that is kept of the last number, what follows the body of its slot; always
+-- true without a body or a slot
 abbrev pub FollowsLast : Option UnreadBody → Option Slot → Option Feed → Type 0
 FollowsLast None s feed = ⊤
 FollowsLast (Some b) None feed = ⊤
@@ -251,7 +255,7 @@ FollowsLast (Some b) (Some s) feed = behind_body (Some b) feed ≡ Some (behind_
 abbrev pub InputEnded : Kept → Type 0
 InputEnded k = (k.is_over ≡ true) × (k.stop ≡ Some End)
 
--- whether the last request's head was read
+-- whether the head of the connection's last request was read
 abbrev pub is_past_last : InputState → Bool
 is_past_last at.Last = true
 is_past_last at.Head = false
@@ -282,7 +286,8 @@ BeginsBehindAt p None rest = ⊥
 BeginsBehindAt p (Some f) rest = BeginsBehind p (Some f.bytes) f.stop rest
 
 -- Whether the bytes to come hold this rest of the client's pipeline, or, if `past` holds, the rest is empty since the
--- last head was read. While a head may follow, what begins after the rest begins after the whole pipeline.
+-- last head was read. If `past` is false and the input goes on after this rest, as `BeginsBehindAt` defines, it also
+-- does after the whole pipeline, as `BeginsMore` defines.
 abbrev pub PlaceIn : Feed → Profile → Bool → Option Feed → List Item → Type 0
 PlaceIn client p past feed rest =
     PlaceAt p past feed rest × (past ≡ false → BeginsBehindAt p feed rest → BeginsMore p client)

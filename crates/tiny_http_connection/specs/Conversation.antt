@@ -1,6 +1,6 @@
--- Whole conversations: which replies and which output a list of steps may have. The laws of `InShort` use the fields
--- `items`, `pipeline` and `end` of `IsConversation`, which `run` guarantees; they can be understood without the rest of
--- this file.
+-- Whole conversations: which replies and which output a list of steps may have. The laws of `InShort`
+-- (`tiny_http_connection_laws`) use the fields `items`, `pipeline` and `end` of `IsConversation`, which `run`
+-- guarantees; they can be understood without the rest of this file.
 use Rattle.std.specs.Prelude.{◌≡◌, ℕ, ◌+◌, ◌-◌, ◌^◌, ◌<◌, ◌⊎◌, Bool, true, false, not, ◌&&◌, ◌||◌, List, [], ◌∷◌}
 use Rattle.std.specs.Prelude.{◌++◌, map, length, Option, Some, None, is_some, unwrap_or, option_map, MatchBool}
 use Rattle.std.specs.Prelude.{slice_get, if◌then◌else◌}
@@ -31,8 +31,8 @@ pub record Failure : Type 0 where
   pub kind : ErrorKind
   pub output : List ℕ
 
--- The state of a conversation: what was reached; the output as of the last step that flushed it, while the writer has
--- not failed; and how the writer failed, if it did.
+-- The state of a conversation: what has been reached; the output as of the last step that flushed it, while the writer
+-- has not failed; and how the writer failed, if it did.
 pub record State : Type 0 where
   pub reached : Reached
   pub flushed : List ℕ
@@ -128,7 +128,8 @@ HasOutcome o old reply new =
     × (new.flushed ≡ flushed_after o.writer old o.slots)
     × WriterPart o.writer old o.reply o.slots reply new.failure
 
--- whether the response's data are read whole before its head is sent, if it is the response to this item
+-- whether the response's data are read whole before its head is sent, if it is the response to this item; false for a
+-- refused head
 abbrev pub GathersFor : HttpDate → ResponseValue → Slot → Item → Type 0
 GathersFor date response s (Asks r) = IsGathered response.answer (to_request r.framing.is_last r date)
 GathersFor date response s (Refuses refusal manner no_body last) = ⊥
@@ -272,9 +273,9 @@ HasAskOutOfMemory (s ∷ steps) (r ∷ replies) = IsAskOutOfMemory s.1 r ⊎ Has
 HasAskOutOfMemory _ _ = ⊥
 
 -- THE CONNECTION THEOREM: the replies and the output are those of a run over the pipeline of the feed under this
--- profile, and `unread` is what is left of the feed, as `InputAt` defines. No memory is requested if no head comes: if
--- an Ask was out of memory, an item of the pipeline is left, or a byte of a further head comes after the whole
--- pipeline, or, except under Standard, the reader times out there.
+-- profile, and `unread` is what is left of the feed, as `InputAt` defines. No memory is requested for a head if none
+-- comes: if an Ask was out of memory, an item of the pipeline is left, or a byte of a further head comes after the
+-- whole pipeline, or, except under Standard, the reader times out there.
 pub record IsConversation (p : Profile) (feed : Feed) (before : Sink) (steps : List TimedValue)
     (replies : List ReplyValue) (after : Sink) (held : List ℕ) (ended : Bool) (unread : Option Feed) : Type 0 where
   pub items : List Item

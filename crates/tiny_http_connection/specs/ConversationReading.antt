@@ -1,5 +1,6 @@
--- A run over a feed under `Lenient` or `Strict` (`HeadRules`), computed for a writer that takes all bytes: a plain
--- reading that tests the definitions. The laws of `InShort` can be understood without this file.
+-- A run over a feed under `Lenient` or `Strict` (`HeadRules`), computed for a writer that takes all bytes and for data
+-- for which memory is found. It tests the definitions. The laws of `InShort` (`tiny_http_connection_laws`) can be
+-- understood without this file.
 use Rattle.std.specs.Prelude.{ℕ, Bool, true, List, [], ◌∷◌, if◌then◌else◌}
 use Rattle.std.specs.Prelude.{false}
 use Rattle.tiny_http_io.specs.Device.{Feed}

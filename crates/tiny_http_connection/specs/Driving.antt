@@ -1,4 +1,5 @@
--- The effects of the calls on a `Connection`. The laws of `InShort` can be understood without this file.
+-- The effects of the calls on a `Connection`. The laws of `InShort` (`tiny_http_connection_laws`) can be understood
+-- without this file.
 use Rattle.std.specs.Prelude.{◌≡◌, ◌⊎◌, ◌||◌, ℕ, ◌+◌, Bool, true, false, List, [], ◌∷◌, ◌++◌, length, replicate}
 use Rattle.std.specs.Prelude.{Option, Some, None, IsSome, MatchBool, drop, slice_get, slice_set, if◌then◌else◌}
 use Rattle.std.specs.Prelude.{string_bytes, ◌<◌, ◌≤◌, ◌^◌, ⊤, nat_lt}
@@ -82,7 +83,7 @@ stated_step feed (step.Upgrade k p r) = step.Upgrade k p (stated_response feed r
 stated_step feed (step.Finish k) = step.Finish k
 stated_step feed (step.Drop k) = step.Drop k
 
--- whether the head at this position is refused and ends the requests, and `why` names its status
+-- whether the head at this position is refused and ends the requests, and `why` states its status
 abbrev pub IsRefusal : Profile → Feed → EndOfRequests → Type 0
 IsRefusal p f why =
     (status : StatusCode)
@@ -109,7 +110,7 @@ ArePassedOver p f (item ∷ items) behind =
     × ArePassedOver p (place_feed f.stop next) items behind
 
 -- whether, after some refused heads that don't end the requests, a byte of a further head comes, or, except under
--- Standard, the reader times out there
+-- Standard, the reader times out there; always true if the reader doesn't state its bytes
 abbrev pub HasByteBehind : Profile → Option Feed → Type 0
 HasByteBehind p None = ⊤
 HasByteBehind p (Some f) =
@@ -251,7 +252,7 @@ RefusesHeads n old new =
     (new.requests ≡ old.requests ++ replicate n None) × (n ≡ 0 → (new.marks ≡ old.marks) × (new.outlet ≡ old.outlet))
 
 -- Whether n heads are refused, and the head of this request follows them; `left` is what remains of its body and of
--- what comes after it.
+-- what comes after it. Always true if the reader doesn't state its bytes.
 abbrev pub HandsOutHead : ℕ → Profile → Option Feed → Message → Framing → Option Remaining → Type 0
 HandsOutHead n p None message framing left = ⊤
 HandsOutHead n p (Some f) message framing left =
@@ -325,7 +326,7 @@ abbrev pub LeavesAllButOutlet : {R W : Type 0} → ConnectionState R W → Conne
 LeavesAllButOutlet old new = (new.requests ≡ old.requests) × (new.marks ≡ old.marks) × (new.source ≡ old.source)
 
 -- What a Respond leaves, depending on the reply. `Refused`: the response was refused, and the request dropped. `Done`
--- or `Fault`: the request was answered.
+-- or `Fault`: the request was answered. Any other reply is unrestricted here.
 abbrev pub AnswerLeaves : {R W : Type 0} → ℕ → Answer → ConnectionState R W → ConnectionState R W → ReplyValue → Type 0
 AnswerLeaves k a old new Refused = LetsGo k old new × (refuses_at a.status (slice_get old.requests k) ≡ true)
 AnswerLeaves k a old new reply =
@@ -333,7 +334,7 @@ AnswerLeaves k a old new reply =
 
 -- What an Upgrade to this protocol with this status code leaves, depending on the reply. `Done`: the request was
 -- upgraded, and its stream reads its body or, under Standard, all that follows. `Refused`: the upgrade was refused, and
--- the request dropped.
+-- the request dropped. `NotYet` and `NoSuch` are unrestricted here, and no other reply is possible.
 abbrev pub UpgradeLeaves : {R W : Type 0} → ℕ → List ℕ → ℕ → ConnectionState R W → ConnectionState R W → ReplyValue
     → Type 0
 UpgradeLeaves k protocol code old new Done =
@@ -388,7 +389,8 @@ ReadLeaves k n old new _ = ⊥
 
 -- What a step leaves of the requests, the source and the output. An AsReader sends the 100 that its request is owed. A
 -- Read changes at most the body of its request, and the source if the body is read from the source. A Respond, a Drop
--- and a Finish remove their request. An IntoWriter gives up the body.
+-- and a Finish that are done remove their request, and an IntoWriter gives up the body. An Upgrade keeps the body for
+-- its stream. A Write and a Flush change only the output.
 abbrev pub StepLeaves : {R W : Type 0} → Step (Option Feed) → HttpDate → ConnectionState R W → ConnectionState R W
     → ReplyValue → Type 0
 StepLeaves step.Ask now old new reply = AskLeaves now old new reply
@@ -417,7 +419,7 @@ IsDeclined _ _ = ⊥
 
 -- Whether a fault that a step reports occurred, whatever the reader, the writer and the data state. The fault of a
 -- Write or a Flush is the writer's, whose failure count rose. The fault of a Respond is the writer's or that of the
--- response's data, printed for its request. In both cases the output has ended. The fault of a Read is the body's, as
+-- response's data, printed for its request. In these cases the output has ended. The fault of a Read is the body's, as
 -- `ReadLeaves` defines. The other steps report none.
 abbrev pub ReportsFault : {R W : Type 0} → ConnectionState R W → ConnectionState R W → HttpDate → Step (Option Feed)
     → ErrorKind → Type 0

@@ -82,8 +82,8 @@ asks_from date writer slots (Refuses refusal manner no_body last ∷ items) =
     (slots ++ new_slot date (Refuses refusal manner no_body last) ∷ []) items
 
 -- The outcome of an Ask: `Ended` once asking has ended; `NotYet` while the last request that was handed out holds the
--- reader; `Ended` after a chunked body that was given up before its end was reported; otherwise the next request of the
--- pipeline, or `Ended` if there is none.
+-- reader; `Ended` after a chunked body that was given up before its end was reported; otherwise the heads before the
+-- next request of the pipeline are refused, and that request is handed out, or the reply is `Ended` if there is none.
 abbrev pub ask : HttpDate → Reached → Outcome
 ask date old =
     if old.asking_ended then unchanged old Ended else

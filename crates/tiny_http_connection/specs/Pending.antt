@@ -1,5 +1,5 @@
--- What is kept of the numbers that aren't finished, and what is sent when their turn comes. The laws of `InShort` can
--- be understood without this file.
+-- What is kept of the numbers that aren't finished, and what is sent when their turn comes. The laws of `InShort`
+-- (`tiny_http_connection_laws`) can be understood without this file.
 use Rattle.std.specs.Prelude.{◌≡◌, ◌==◌, ◌<◌, ◌^◌, ◌+◌, ℕ, Bool, true, false, not, ◌||◌, List, [], ◌∷◌, ◌++◌, length}
 use Rattle.std.specs.Prelude.{Option, Some, None, MatchBool, is_err, slice_get, if◌then◌else◌}
 use Rattle.tiny_http_io.specs.Device.{Sink}
@@ -217,7 +217,8 @@ abbrev pub NextHeld : HeldNumber → Finishing (Unit {0}) → Option (Vec ℕ) �
 NextHeld k r None l = ((u : Unit {0}) (next : Vec ℕ) → r ≡ Go u next → ⊥)
 NextHeld k r (Some text) l = ((u : Unit {0}) × (r ≡ Go u text)) × (l.0 ≡ k.0 + 1) × (l.0 < 2 ^ 64)
 
--- whether a held number was finished, by a step of the turns
+-- whether a held number was finished by the step `Finish` of the turns (`tiny_http_turns`), and the next number follows
+-- as `NextHeld` defines
 abbrev pub FinishesHeld : HeldNumber → TurnsState (Unit {0}) → Option (Vec ℕ) → HeldNumber → TurnsState (Unit {0})
     → Type 0
 FinishesHeld k p left l q =

@@ -1,5 +1,5 @@
--- Whether each step is done, given what is kept of its number. The laws of `InShort` can be understood without this
--- file.
+-- Whether each step is done, given what is kept of its number. The laws of `InShort` (`tiny_http_connection_laws`) can
+-- be understood without this file.
 use Rattle.std.specs.Prelude.{◌≡◌, ⊤, ℕ, ◌==◌, Bool, true, false, not, ◌&&◌, Option, Some, is_some, slice_get}
 use Rattle.std.specs.Prelude.{string_bytes}
 use Rattle.tiny_http_io.specs.Device.{Feed}

@@ -1,4 +1,5 @@
--- The result of a run of a list of steps. The laws of `InShort` can be understood without this file.
+-- The result of a run of a list of steps. The laws of `InShort` (`tiny_http_connection_laws`) can be understood without
+-- this file.
 use Rattle.std.specs.Prelude.{◌≡◌, ℕ, List, map, true, false, [], ◌∷◌, length, Option, Some, None}
 use Rattle.std.specs.List.{AllZip}
 use Rattle.tiny_http_io.specs.Device.{Feed, Sink, HoldsNothing}
@@ -40,7 +41,7 @@ pub record IsNew {R W : Type 0} (p : Profile) (reader : R) (client : Option Feed
   pub outlet : c.outlet ≡ record { held = []; ended = false; writer = writer; sink = before }
 
 -- Whether these steps were taken one after another, each with its reply, from the state `old` of a connection to the
--- state `new`. `stop_count`: how many ends and faults the reader states to have reported.
+-- state `new`. `stop_count`: how many ends and faults the reader states that it has reported.
 abbrev pub TakesSteps : {R W D : Type 0} → (R → ℕ) → (D → Option Feed) → ConnectionState R W → List (Timed D)
     → List Reply → ConnectionState R W → Type 0
 TakesSteps stop_count stated old [] [] new = new ≡ old
@@ -70,7 +71,7 @@ pub record RunsSteps {R W D : Type 0} (client : R → Option Feed) (stop_count :
   pub states : done.outlet.sink ≡ sink done.outlet.writer
   -- the writer failed at most once
   pub fails_once : FailsAtMostOnce (sink writer) (sink done.outlet.writer)
-  -- Nothing is held, unless a Write that was done follows the last Flush, Respond or Upgrade that was done. If,
-  -- besides, the writer held nothing back before the run, it has sent on all that it took.
+  -- Nothing is held, unless a Write that was done follows the last Flush, Respond or Upgrade that was done. If no such
+  -- Write follows, and the writer held nothing back before the run, the writer has sent on all that it took.
   pub flushed : all_sent steps done.replies.items true ≡ true → done.outlet.held ≡ []
   pub sent_on : HoldsNothing (sink writer) → all_sent steps done.replies.items true ≡ true → SentOn done.outlet

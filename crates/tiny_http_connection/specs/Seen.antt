@@ -1,5 +1,5 @@
--- How the program's steps and replies correspond to the values that the definitions use. The laws of `InShort` can be
--- understood without this file.
+-- How the program's steps and replies correspond to the values that the definitions use. The laws of `InShort`
+-- (`tiny_http_connection_laws`) can be understood without this file.
 use Rattle.std.specs.Prelude.{◌≡◌, ◌⊎◌, ◌<◌, ◌^◌, List, [], ◌∷◌, length, Option, Some, Bool, true, false, not, ◌&&◌}
 use Rattle.std.specs.Prelude.{◌||◌, Result, Ok, Err, string_bytes}
 use Rattle.std.specs.IoError.{error_kind}
@@ -67,8 +67,8 @@ ReportsOfWriter old new reply =
     (new.failures ≡ old.failures) ⊎ ((kind : ErrorKind) × (reply ≡ Fault kind) × IsOfWriter old new kind)
 
 -- WHETHER ALL BYTES WERE SENT ON after a step, given whether they were before it. A Write that is done may hold its
--- bytes back; a Flush, a response or an upgrade that is done holds none back. Any other step leaves the value as it
--- was.
+-- bytes back; a Flush, a response or an upgrade that is done holds none back. An Ask, an AsReader, a Read, an
+-- IntoWriter, a Finish, a Drop, and any step that isn't done leave the value as it was.
 abbrev pub all_sent_after : {D : Type 0} → Step D → ReplyValue → Bool → Bool
 all_sent_after step.Ask reply sent = sent
 all_sent_after (step.AsReader k) reply sent = sent
@@ -81,7 +81,8 @@ all_sent_after (step.Upgrade k p r) reply sent = sent || is_done reply
 all_sent_after (step.Finish k) reply sent = sent
 all_sent_after (step.Drop k) reply sent = sent
 
--- whether all bytes were sent on after all these steps, each with its reply, given whether they were before the first
+-- whether all bytes were sent on after all these steps, each with its reply, given whether they were before the first;
+-- false if the steps and the replies differ in number
 abbrev pub all_sent : {D : Type 0} → List (Timed D) → List Reply → Bool → Bool
 all_sent [] [] sent = sent
 all_sent (t ∷ steps) (r ∷ replies) sent = all_sent steps replies (all_sent_after t.step (seen r) sent)

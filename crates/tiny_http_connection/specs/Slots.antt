@@ -1,6 +1,6 @@
 -- What the outcome of a step depends on: which number is the last, what is left of its body, and how a request ends the
--- connection. The laws of `InShort` can be understood without this file: it defines when a step is refused, has to
--- wait, or ends the requests.
+-- connection. The laws of `InShort` (`tiny_http_connection_laws`) can be understood without this file: it defines when
+-- a step is refused, has to wait, or ends the requests.
 use Rattle.std.specs.Prelude.{ℕ, ◌-◌, nat_lt, Bool, true, false, not, ◌&&◌, ◌||◌, List, [], ◌∷◌, ◌++◌, take, drop}
 use Rattle.std.specs.Prelude.{Option, Some, None, is_err, if◌then◌else◌}
 use Rattle.std.specs.List.{last_or, list_all}

@@ -40,14 +40,16 @@ use tiny_http_response::sending::reported;
 /// One call on a connection, as a value.
 #[derive(Drop)]
 pub enum Step<D> {
-    /// Reads the next request head and hands out its request. The reply is `NotYet` while the body of the last request
-    /// is read from the input, and was neither read to its end or fault nor given up. Under `Standard` it is also
-    /// `NotYet` while the last request asks for an upgrade and awaits its response. Neither applies if that request is
-    /// the connection's last. No head follows a chunked body that was given up before its end was reported.
+    /// Reads the next request head and hands out its request, or ends the requests (`Ended`). The reply is `NotYet`
+    /// while the body of the last request is read from the input, and was neither read to its end or fault nor given
+    /// up. Under `Standard` it is also `NotYet` while the last request asks for an upgrade and awaits its response.
+    /// Neither applies if that request is the connection's last. No head follows a chunked body that was given up
+    /// before its end was reported.
     Ask,
     /// Sends the 100 that is owed to the request of this number, in its turn. If none is owed, changes nothing.
     AsReader(u64),
-    /// Reads the body of the request of this number, until it has read this many bytes, 0 to 65,535, or no more follow.
+    /// Reads the body of the request of this number, or the stream of its upgrade, until it has read this many bytes, 0
+    /// to 65,535, or no more follow.
     Read(u64, u16),
     /// Responds to the request of this number in its turn, and gives up its body.
     Respond(u64, Response<D>),
@@ -72,8 +74,8 @@ pub enum Step<D> {
 /// A step with its date.
 #[derive(Drop)]
 pub struct Timed<D> {
-    /// The `Date` of the response that the step sends. The 500 for a dropped request has the date of the `Ask` that
-    /// handed out the request.
+    /// The `Date` of the responses that the step makes: a response of the program, a 100, or error responses to refused
+    /// heads. The 500 for a dropped request has the date of the `Ask` that handed out the request.
     pub now: HttpDate,
     /// The step.
     pub step: Step<D>,
@@ -89,7 +91,8 @@ pub enum Reply {
     /// These bytes of the body. If they are fewer than were asked for, no byte follows: the next read of at least one
     /// byte reports the end with an empty `Given`, or the fault with `Fault`.
     Given(Vec<u8>),
-    /// The body ends with this fault, or the writer or the response's data failed with it.
+    /// The body ends with this fault, or the writer or the response's data failed with it. It is `OutOfMemory` if
+    /// memory for the data of a `Respond` was refused.
     Fault(ErrorKind),
     /// The step has to wait, and nothing has changed. An `Ask` waits for the last body to be read or given up, or for
     /// the response to a request that asks for an upgrade. A `Respond` or an `Upgrade` that isn't refused, a `Write`, a
@@ -149,7 +152,7 @@ impl Reply {
 }
 
 // Responds to a request whose turn has come, and returns the reply. `left` is what remains of the request's body. After
-// the output has ended nothing is sent, and the data are left unread.
+// the output has ended nothing is sent, the data are left unread, and the reply is `Done`.
 fn answer<W: WriteDevice, D: ReadDevice + Drop>(
     alloc: Global,
     request: &mut OpenRequest<UnreadBody>,
@@ -272,14 +275,15 @@ impl<R: ReadDevice, W: WriteDevice> Connection<R, W> {
     /// request is the connection's last.
     ///
     /// Returns `Ended`, then and from then on, if the connection has no further request; `end_of_requests` returns why.
-    /// A refused head gets an error response under its own number, in its turn, and ends the requests. A head that is
-    /// refused with 505 ends them only if it names an upgrade, its body is chunked or the profile is `Standard`;
-    /// otherwise the same call reads the next head.
+    /// A refused head gets an error response under its own number, in its turn, and ends the requests, with one
+    /// exception: after a head that is refused with 505 the same call reads the next head, unless that head names an
+    /// upgrade, its body is chunked, or the profile is `Standard`.
     ///
-    /// Returns `Memory` if memory is refused, which ends the requests too, as does a chunked body that was given up
-    /// before its end was reported. Under `Standard` the requests also end after one that asked for an upgrade, once it
-    /// is upgraded or its raw writer is taken, and after one that is answered or dropped, or whose raw writer is taken,
-    /// while its 100 is owed or more than 65,536 bytes of a body with a `Content-Length` are unread.
+    /// Returns `Memory` if memory is refused, which ends the requests too. The requests also end after a response that
+    /// was made with `with_close`, and after a chunked body that was given up before its end was reported. Under
+    /// `Standard` they also end after one that asked for an upgrade, once it is upgraded or its raw writer is taken,
+    /// and after one that is answered or dropped, or whose raw writer is taken, while its 100 is owed or more than
+    /// 65,536 bytes of a body with a `Content-Length` are unread.
     ///
     /// The call waits for the client only until the head and a body of up to 1024 bytes have come, or only the head if
     /// the request expects a 100. Before that it waits for the rest of a body with a content length that was given up
@@ -344,12 +348,13 @@ impl<R: ReadDevice, W: WriteDevice> Connection<R, W> {
         Reply::Done
     }
 
-    /// Reads the body of the request of this number, until it has read `count` bytes or no more follow, and returns
-    /// them in `Given`, which is empty once the body has ended. The call sends nothing, and so takes no date.
+    /// Reads the body of the request of this number, or the stream of its upgrade, until it has read `count` bytes or
+    /// no more follow, and returns them in `Given`, which is empty once the body has ended. The call sends nothing, and
+    /// so takes no date.
     ///
     /// If the body is cut or broken, the read after its last byte returns `Fault`, as does each later read; a body with
     /// a `Content-Length` that the end of input cuts has a fault under `Standard`, and otherwise ends there. Returns
-    /// `NoSuch` if this number neither awaits its response nor has the stream of an upgrade, and while its 100 is owed.
+    /// `NoSuch` if this number neither awaits its response nor has the stream of an upgrade, or while its 100 is owed.
     /// Returns `Memory` if memory for `count` bytes is refused; then nothing has changed. If `count` is 0, it returns
     /// `NoSuch` or an empty `Given`.
     #[inline(never)]
@@ -387,10 +392,10 @@ impl<R: ReadDevice, W: WriteDevice> Connection<R, W> {
     /// await its response. The response is an empty 500, dated when the request was handed out. Under `Standard` it
     /// says `Connection: close` if a response from `respond` would.
     ///
-    /// The 500 is sent now, or by the call that finishes the last number before this one. The reply is never `NotYet`,
-    /// and never reports a fault of the writer. The call takes no memory. Under `Standard` no request follows one that
-    /// is dropped or answered while its 100 is owed, or while more than 65,536 bytes of a body with a `Content-Length`
-    /// are unread.
+    /// The 500 is sent now, or by the call that finishes the last of the unfinished numbers before this one. The reply
+    /// is never `NotYet`, and never reports a fault of the writer. The call takes no memory. Under `Standard` no
+    /// request follows one that is dropped or answered while its 100 is owed, or while more than 65,536 bytes of a body
+    /// with a `Content-Length` are unread.
     #[inline(never)]
     pub fn drop_request(&mut self, number: u64) -> Reply
         ensures step { (date : Date) → TakesStep self.old self.new date (Step.Drop number) (seen result) }
@@ -493,7 +498,7 @@ impl<R: ReadDevice, W: WriteDevice> Connection<R, W> {
     }
 
     /// Writes bytes through the raw writer of this number, or to the stream of its upgrade, and returns `Done`. Returns
-    /// `Fault` if the writer failed in these bytes or in what was held before them. Up to 1024 bytes may be held until
+    /// `Fault` if the writer fails in these bytes or in what was held before them. Up to 1024 bytes may be held until
     /// `flush` or `finish`.
     ///
     /// A fault of any kind is reported. After it nothing more is sent on the connection, and later writes are `Done`
@@ -515,7 +520,7 @@ impl<R: ReadDevice, W: WriteDevice> Connection<R, W> {
     }
 
     /// Sends what was written under this number, flushes the writer, and returns `Done`. Returns `Fault` if the writer
-    /// failed, and `NotYet` or `NoSuch` as `write` does.
+    /// fails, and `NotYet` or `NoSuch` as `write` does.
     #[inline(never)]
     pub fn flush(&mut self, number: u64) -> Reply
         ensures step { (date : Date) → TakesStep self.old self.new date (Step.Flush number) (seen result) }
@@ -591,7 +596,7 @@ impl<R: ReadDevice, W: WriteDevice> Connection<R, W> {
         Reply::Done
     }
 
-    /// Makes the call that a step names, on the step's date.
+    /// Makes the call that a step stands for, with the step's date.
     // The calls aren't inlined here: each step would zero the stack space of all of them.
     pub fn step<D: ReadDevice + Drop>(&mut self, alloc: Global, timed: Timed<D>) -> Reply
         ensures step { TakesStep self.old self.new timed.now (stated_step D.feed timed.step) (seen result) }
@@ -617,7 +622,7 @@ impl<R: ReadDevice, W: WriteDevice> Connection<R, W> {
     }
 
     /// Ends the connection, and returns the reader and the writer with their buffers. Requests that await their
-    /// responses are dropped without one.
+    /// responses get none, and texts that wait for their turn aren't sent.
     pub fn into_parts(self) -> (Source<R>, Outlet<W>)
         ensures conversation { (p : Profile) (client : Feed) (before : Sink) (steps : List TimedValue)
             (replies : List ReplyValue)

@@ -68,7 +68,8 @@ impl Pending {
         }
     }
 
-    /// Issues the next number, and keeps `request` under it. On an error nothing has changed.
+    /// Issues the next number, and keeps `request` under it, which is `None` for a refused head. On an error nothing
+    /// changes.
     #[inline(always)]
     pub fn issue(&mut self, request: Option<Unfinished>) -> Result<u64, TurnsError>
         ensures number { IfOk result (λ n. n ≡ length self.old.turns.marks) }
@@ -162,7 +163,8 @@ impl Pending {
     }
 
     /// Returns whether this number awaits its response, and no head is read after it once it takes over the
-    /// connection's stream: it holds the next head, or would be the last if it were answered now.
+    /// connection's stream: either the next head waits for the response to this request (`holds_next_head`), or no head
+    /// would be read after this request even if it were answered now.
     pub fn is_last_with_stream(&self, number: u64) -> bool
         ensures { result ≡ is_last_with_stream_at (slice_get self.now.requests number) }
     {
@@ -185,7 +187,7 @@ impl Pending {
     }
 
     /// If `closes` holds, makes the response to the last number say, under `Standard`, that the connection closes after
-    /// it. Does nothing if that number doesn't await its response.
+    /// it. Otherwise, or if that number doesn't await its response, nothing changes.
     pub fn close_last(&mut self, closes: bool)
         ensures turns { self.new.turns ≡ self.old.turns }
         ensures requests { self.new.requests ≡ closing_if_asked closes self.old.requests }
@@ -212,8 +214,7 @@ impl Pending {
         number == self.turns.first_unfinished()
     }
 
-    /// Sends the 100 that is owed to the request of this number, if the number awaits its response. After that none is
-    /// owed.
+    /// If this number awaits its response and its request is owed a 100, sends the 100. Afterwards none is owed.
     pub fn send_continue<W: WriteDevice>(
         &mut self,
         alloc: Global,
@@ -274,8 +275,8 @@ impl Pending {
         }
     }
 
-    /// Fills a buffer from the body of this number, and returns the number of bytes. It is 0 if no body is kept. Fails
-    /// with the body's fault if it comes before any byte.
+    /// Reads the body that is kept of this number until the buffer is full or no more bytes follow, and returns the
+    /// count of bytes read, which is 0 if no body is kept. Fails with the body's fault if it comes before any byte.
     pub fn fill<R: ReadDevice>(
         &mut self,
         source: &mut Source<R>,
@@ -308,7 +309,8 @@ impl Pending {
         filled
     }
 
-    /// Removes and returns the request of this number, if it awaits its response, and keeps `then` under the number.
+    /// If this number awaits its response, removes and returns its request, and keeps `then` under the number.
+    /// Otherwise returns `None`, and nothing changes.
     #[inline(always)]
     pub fn take(&mut self, number: u64, then: Option<Unfinished>) -> Option<OpenRequest<UnreadBody>>
         ensures some { IfSome result (λ w. (WaitsAt self.old.requests number w)
@@ -326,7 +328,8 @@ impl Pending {
         }
     }
 
-    /// Removes and returns what is kept of this number, if bytes can be written under it.
+    /// If bytes can be written under this number, removes and returns what is kept of it. Otherwise returns `None`, and
+    /// nothing changes.
     pub fn close(&mut self, number: u64) -> Option<Unfinished>
         ensures some { IfSome result (λ u. (slice_get self.old.requests number ≡ Some (Some u))
             × (is_writable (Some (Some u)) ≡ true)
@@ -342,7 +345,8 @@ impl Pending {
         }
     }
 
-    /// Holds this number if it is open and its turn has come, and returns whether it did.
+    /// Holds this number and returns true, if it is open and its turn has come. Otherwise returns false, and nothing
+    /// changes.
     pub fn hold(&mut self, number: u64) -> bool
         ensures held { IsTrue result ↔ ((slice_get self.old.turns.marks number ≡ Some Open)
             × (number ≡ first_unfinished self.old.turns.marks)) }
@@ -378,8 +382,9 @@ impl Pending {
         }
     }
 
-    /// Leaves a text for an open number. In the number's turn, at once if it has come, sends the text and finishes the
-    /// number, as `pass` does.
+    /// Leaves a text for an open number. If the number's turn has come, sends the text, finishes the number, and does
+    /// the same for the numbers directly after it for which texts were left. Otherwise the text waits for the number's
+    /// turn. No reply reports a fault of the writer in these texts.
     pub fn leave<W: WriteDevice>(&mut self, outlet: &mut Outlet<W>, number: u64, text: Vec<u8>)
         ensures leaves { (front rest : List Mark)
             → self.old.turns.marks ≡ front ++ (Open ∷ rest)
@@ -409,8 +414,8 @@ impl<W: WriteDevice> RefusalPlace<Outlet<W>> for Pending {
 
     ghost refuses = { RefusesHead };
 
-    /// Gives the refused head the next number, and leaves its error response for that number. On an error nothing has
-    /// changed.
+    /// Gives the refused head the next number, and leaves its error response for that number. On an error nothing
+    /// changes.
     fn refuse(&mut self, outlet: &mut Outlet<W>, text: Vec<u8>) -> Result<(), AllocError> {
         let Ok(number) = self.issue(None) else {
             return Err(AllocError);
@@ -420,8 +425,8 @@ impl<W: WriteDevice> RefusalPlace<Outlet<W>> for Pending {
     }
 }
 
-// Fills a buffer from the body of a request, and returns the number of bytes. It is 0 if no body is kept. Fails with
-// the body's fault if it comes before any byte.
+// Reads the body of a request until the buffer is full or no more bytes follow, and returns the count of bytes read,
+// which is 0 if no body is kept. Fails with the body's fault if it comes before any byte.
 fn fill_from<R: ReadDevice>(
     unfinished: &mut Unfinished,
     source: &mut Source<R>,

@@ -34,11 +34,11 @@ pub record Account : Type 0 where
 abbrev pub untouched : Account
 untouched = record { condition = Waits; by = None; written = []; asked = None }
 
--- the account, with this condition if `holds` is true
+-- the account, with this condition if `holds` is true, and otherwise unchanged
 abbrev pub becomes : Condition → Bool → Account → Account
 becomes condition holds a = if holds then record a { condition = condition } else a
 
--- the account, answered by this step if `holds` is true
+-- the account, answered by this step if `holds` is true, and otherwise unchanged
 abbrev pub answered_by : TimedValue → Bool → Account → Account
 answered_by step holds a = if holds then record a { by = Some step } else a
 
@@ -89,9 +89,10 @@ written_in (Raw written closed) = written
 written_in (Upgraded protocol response date written closed) = written
 written_in _ = []
 
--- NUMBER k IS AS ITS ACCOUNT SAYS. Its response is that of the step which answered it, or else the server's or none.
--- The bytes written under it are those of its writes. Its 100 has the date on which it was first asked for, if its head
--- expects one. Nothing is done for a refused head, which the server answers.
+-- NUMBER k IS AS ITS ACCOUNT SAYS. Its condition is that of the account. Its response is that of the step that answered
+-- it, if one did; otherwise it is the server's, or there is none. The bytes written under it are those of its writes.
+-- If its head expects a 100 that was asked for, the 100 has the date on which it was first asked for; otherwise there
+-- is none. Nothing is done for a refused head, which the server answers.
 abbrev pub MatchesAccount : ℕ → Slot → Item → Account → Type 0
 MatchesAccount k s (Asks r) a =
     (condition_of s.stage ≡ a.condition)
@@ -187,8 +188,8 @@ was_cut_short s r =
     || (r.framing.by_standard
     && ((r.framing.owes_continue && not (is_some s.continued)) || is_long (remainder_of r s.given s.end_reported)))
 
--- whether no head is read after a number in this stage, whatever its own head says: its request was cut short, or asked
--- for an upgrade and took over the connection's stream
+-- whether no head is read after a number in this stage, whatever its own head says: its request was cut short (if it
+-- was upgraded, only by giving up its chunked body), or asked for an upgrade and took over the connection's stream
 abbrev pub stops_by : Slot → Request → Stage → Bool
 stops_by s r Unanswered = false
 stops_by s r (Answered response date found) = was_cut_short s r

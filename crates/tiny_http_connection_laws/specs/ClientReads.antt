@@ -38,8 +38,8 @@ abbrev pub offer_headers : Option (List ℕ) → List Header
 offer_headers None = []
 offer_headers (Some protocols) = upgrade_header protocols ∷ []
 
--- The headers of a response's own as they are printed: unchanged; or, under Standard, made safe, after a header with
--- the protocols that the response offers, if any.
+-- The headers of a response's own as they are printed: unchanged; or, under Standard, as `put_safe_headers`
+-- (`tiny_http_response`) writes them, after a header with the protocols that the response offers, if any.
 abbrev pub headers_printed : Bool → Answer → List Header
 headers_printed false a = a.headers
 headers_printed true a = offer_headers (option_map safe_value a.offered) ++ safe_headers a.headers

@@ -8,8 +8,8 @@ use Rattle.tiny_http_body.specs.declared.framing.Profile.TheVariants.{Standard}
 use Rattle.tiny_http_connection_laws.specs.ClientReads.{CanBeReadAt, stage_answer}
 use Rattle.tiny_http_connection.specs.Segments.{Slot, Stage, Unanswered, Answered, ByServer, Raw, Upgraded}
 
--- whether `printing_for` prints a close: under Standard in an error response to a refused head, and in the response to
--- a request if `closes` holds
+-- whether a response is printed with `close`, as `printing_for` (`tiny_http_connection`) determines: under Standard in
+-- an error response to a refused head, and in the response to a request if `closes` holds
 abbrev pub is_close_printed : Bool → Item → Bool
 is_close_printed closes (Asks r) = r.framing.by_standard && closes
 is_close_printed closes (Refuses refusal manner no_body last) = manner.by_standard

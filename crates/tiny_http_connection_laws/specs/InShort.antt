@@ -1,8 +1,8 @@
 -- The connection theorem in short. The laws of this crate that use these definitions are on the parts of an
 -- `IsConversation`: its `items`, which are the pipeline of the bytes (its field `pipeline`); `end.reached.slots`, the
 -- numbers that were reached; and its replies and output. They can be understood with the definitions of what the bytes
--- hold (`Pipeline`) and what a number sends (`segment`) alone, without those of a step's outcome and of what the driver
--- keeps.
+-- hold (`Pipeline`, in `tiny_http_open_request`) and what a number sends (`segment`, in `tiny_http_connection`) alone,
+-- without those of a step's outcome and of what the driver keeps.
 use Rattle.std.specs.Prelude.{◌≡◌, ℕ, ◌+◌, ◌⊎◌, ⊤, ◌==◌, Bool, not, ◌&&◌, List, [], ◌∷◌, ◌++◌, MatchBool}
 use Rattle.std.specs.Prelude.{Option, Some, None, if◌then◌else◌}
 use Rattle.tiny_http_io.specs.Device.{Feed}

@@ -89,9 +89,9 @@ pub fn output_joins_the_segments()
 {}
 
 /// EACH NUMBER IS AS ITS STEPS AND THEIR REPLIES SAY. Each request that was handed out has a number. The number is
-/// finished if a step finished it. Its response is that of the step that answered it, if one did; otherwise it is the
-/// server's, or there is none. Its raw writer or stream has the bytes of its writes, joined. If its head expects a 100
-/// and a step asked for that, the 100 has the date of the first such step.
+/// finished exactly if a step finished it. Its response is that of the step that answered it, if one did; otherwise it
+/// is the server's, or there is none. Its raw writer or stream has the bytes of its writes, joined. If its head expects
+/// a 100 and a step asked for that, the 100 has the date of the first such step; otherwise there is none.
 pub fn numbers_match_their_accounts()
     ensures reached { (p : Profile) (feed : Feed) (before after : Sink) (steps : List TimedValue)
         (replies : List ReplyValue) (held : List ℕ) (ended : Bool) (unread : Option Feed)
@@ -107,11 +107,11 @@ pub fn numbers_match_their_accounts()
         → MatchesAccount k s s.item (account k steps replies) }
 {}
 
-/// STEPS ARE TAKEN IN TURN. A step other than a read, for a request that was handed out and accepts the step, is done
-/// or refused, and not put off, once the numbers before it are finished; an `IntoWriter`, a `Drop` and a `Finish` are
-/// even before that. A response, a write, a flush and an upgrade are done only once those numbers are finished. The
-/// reply is `NoSuch` if no request that was handed out accepts the step, and otherwise only to a read. An `Ask` is put
-/// off only while the last request that was handed out isn't finished.
+/// STEPS ARE TAKEN IN TURN. A step other than an `Ask` or a read, for a request that was handed out and accepts the
+/// step, is done or refused, and not put off, once the numbers before it are finished; an `IntoWriter`, a `Drop` and a
+/// `Finish` are even before that. A response, a write, a flush and an upgrade are done only once those numbers are
+/// finished. The reply is `NoSuch` if no request that was handed out accepts the step, and otherwise only to a read. An
+/// `Ask` is put off only while the last request that was handed out isn't finished.
 pub fn steps_are_taken_in_turn()
     ensures done { (p : Profile) (feed : Feed) (before after : Sink) (steps later : List TimedValue)
         (replies more : List ReplyValue) (held : List ℕ) (ended : Bool) (unread : Option Feed) (date : HttpDate)

@@ -28,8 +28,8 @@ abbrev pub fused_stop_count : {R : Type 0} → (R → ℕ) → FusedReader R →
 fused_stop_count stop_count r = stop_count r.inner
 
 -- ONE READ of a `FusedReader`. It is a read of the feed still to come. Whatever the inner reader states, a read into an
--- empty buffer changes nothing, neither bytes nor a fault count as the end, and the inner reader isn't called again
--- after its end.
+-- empty buffer changes nothing, neither a read that returns bytes nor a fault counts as the end, and the inner reader
+-- isn't called again after its end.
 pub record ReadsFused {R : Type 0} (feed : R → Option Feed) (old new : FusedReader R) (r : Result ℕ Error)
     (buf : List ℕ) : Type 0 where
   pub reads : Reads (fused_feed feed old) (fused_feed feed new) r buf

@@ -196,9 +196,9 @@ pub record EndsHere {R : Type 0} (old new : SourceState R) : Type 0 where
   pub input_state : new.input_state ≡ old.input_state
 
 -- The effect of reading a line, within the limit if there is one. After any fault except a line that isn't ASCII the
--- source is over; after refused memory or a line that is too long it is at its end. If the buffer holds as many bytes
--- as the limit after those to be skipped, the reader isn't called (`full`). A source that is over stays so, and each
--- further call fails with the fault of its stop, or with `TooLong` if the limit is 0.
+-- source is over; after refused memory or a line that is too long it is at its end. If the buffer holds at least as
+-- many bytes as the limit after those to be skipped, the reader isn't called (`full`). A source that is over stays so,
+-- and each further call fails with the fault of its stop, or with `TooLong` if the limit is 0.
 pub record ReadsOneLine {R : Type 0} (left : Option ℕ) (old new : SourceState R)
     (r : Result (List ℕ) LineFault) : Type 0 where
   pub line : ReadsWithin left old.feed new.feed r

@@ -20,7 +20,7 @@ pub enum LineFault {
     End,
     /// The line has a byte above 127. The source continues after the line.
     NotAscii,
-    /// All bytes up to the limit came, without a CR LF. From then on the source is at its end.
+    /// All bytes up to the limit have come, without a CR LF. From then on the source is at its end.
     TooLong,
     /// The reader timed out before a CR LF.
     TimedOut,

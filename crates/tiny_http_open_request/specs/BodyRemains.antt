@@ -1,4 +1,5 @@
--- What is left of a body from a position within it. Trusting the laws of `InShort` doesn't require this file.
+-- What is left of a body from a position within it. The laws of `InShort` (`tiny_http_connection_laws`) can be
+-- understood without this file.
 use Rattle.std.specs.Prelude.{◌≡◌, ℕ, Bool, ◌<◌, ◌⊎◌, List, [], ◌++◌, length, Some, None}
 use Rattle.std.specs.declared.io.ErrorKind.{ErrorKind}
 use Rattle.tiny_http_io.specs.declared.device.Stop.{Stop}

@@ -1,4 +1,5 @@
--- The effect on the input of the calls that read a head.
+-- The effect on the input of the calls that read a head. If the feed before a call is `None`, because the reader
+-- doesn't state its bytes, these relations say nothing of what the call reads.
 use Rattle.std.specs.Prelude.{◌≡◌, ◌≢◌, ℕ, ◌+◌, ◌-◌, ⊤, ◌⊎◌, List, [], length, nat_lt, Option, Some, None, Result, Ok}
 use Rattle.std.specs.Prelude.{Err, unwrap_or, Bool, true, false, MatchBool, IfSome, IfOk, IsErr, IsSome, if◌then◌else◌}
 use Rattle.std.specs.declared.alloc.AllocError.{AllocError}
@@ -270,7 +271,8 @@ AnswersCut stop standard has_begun date r =
     (r ≡ Ok (read.Ended (cut_end stop has_begun)))
 
 -- Whether this is the result for a head with this fault, with its version if that was read: a refusal, or why no
--- request follows; or memory for its line was refused. `stop` is how the input stopped if the head is cut.
+-- request follows; or memory for its line or for the response was refused. `stop` is how the input stopped if the head
+-- is cut.
 abbrev pub AnswersFault : Option HTTPVersion → HeadFault → Option Stop → HttpDate → Result HeadRead AllocError → Type 0
 AnswersFault v fault.Malformed stop date r = RefusesWith 400 (plainly (unwrap_or v (version 1 1))) date r
 AnswersFault v fault.Cut stop date r = IfSome stop (λ s. AnswersCut s false true date r)
@@ -314,7 +316,8 @@ GoesOnAt true stop next new = next ≡ None
 GoesOnAt false stop next new = new ≡ Some (place_feed stop next)
 
 -- ONE HEAD, read at a position: whether a call returns the item found there, what is still to come of its body, and
--- where the next head begins after that, unless the request is the last; or why no request follows.
+-- where the next head begins after that, unless the request is the last; or why no request follows. Always true if
+-- memory is refused.
 abbrev pub ReadsHead : Profile → InputState → HttpDate → Option Feed → Option Feed → Result HeadRead AllocError → Type 0
 ReadsHead p from_here date None new r = ⊤
 ReadsHead p from_here date (Some f) new (Ok (read.Request x)) =

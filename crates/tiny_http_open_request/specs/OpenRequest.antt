@@ -30,7 +30,8 @@ use Rattle.tiny_http_open_request.specs.declared.upgrading.UpgradeError.TheVaria
 use Rattle.tiny_http_open_request.specs.ErrorResponse.{persistence_of}
 use Rattle.tiny_http_open_request.specs.Pipeline.{is_head_method, is_connect_method}
 
--- the coding that the headers of a request ask for: under `Standard`, chunked or none
+-- the coding that the headers of a request ask for: under `Standard`, chunked or none; under another profile as in
+-- `coding_asked` (`tiny_http_response`)
 abbrev pub coding_for : Bool → List Header → Option Coding
 coding_for by_standard headers =
     if by_standard then (if asks_chunked headers then Some Chunked else None) else coding_asked headers
@@ -133,7 +134,7 @@ HasNoDropText old new = new ≡ record old { owes_continue = false; dropped = re
 abbrev pub HasNoBodyLeft : OpenRequest UnreadBody → OpenRequest UnreadBody → Type 0
 HasNoBodyLeft old new = new ≡ record old { body = Over End; owes_continue = false; holds_next_head = false }
 
--- whether an outlet holds nothing back, and all that it took was sent on, unless the outlet or its writer has ended
+-- whether an outlet holds no bytes, and, unless the outlet or its writer has ended, all that it took was sent on
 abbrev pub HasSentAll : {W : Type 0} → OutletState W → Type 0
 HasSentAll o = (outlet_held o ≡ []) × SentOn o × IsFlushed (output_of o)
 

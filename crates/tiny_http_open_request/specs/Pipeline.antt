@@ -88,7 +88,8 @@ framing_refusal Invalid = BadRequest
 framing_refusal Expectation = ExpectationFailed
 
 -- What one head asks for. `Asks`: the request is handed out. `Refuses`: the head is refused in this manner; `no_body`
--- marks a `HEAD`, which matters only for `VersionNotSupported`, and `last` means that the refusal ends the connection.
+-- marks a `HEAD`, which matters only for `VersionNotSupported`, and `last` means that no head is read after the refused
+-- one.
 pub data Item : Type 0 where
   Asks : (request : Request) → Item
   Refuses : (refusal : Refusal) (manner : Manner) (no_body last : Bool) → Item
@@ -172,9 +173,9 @@ IsNotAsciiHead p bytes = (line : Option HTTPVersion) × FaultyHead (seen_within 
 abbrev pub HasNoItem : HeadRules → List ℕ → Stop → Type 0
 HasNoItem p bytes stop = (IsCutHead p bytes × (is_timed_out stop ≡ false)) ⊎ IsNotAsciiHead p bytes
 
--- A REFUSAL: whether the head at the front of the bytes is refused in this manner, with the version of the request
--- line, or 1.1 if that hasn't ended; a 408 is always in 1.1. A version above 1.1 is left to `item_of`, since a body
--- follows.
+-- A REFUSAL: whether the head at the front of the bytes is refused in this manner, in the version of the request line,
+-- or in 1.1 if that line is unfinished or bad; a 408 is always in 1.1. A version above 1.1 is left to `item_of`, since
+-- a body follows.
 abbrev pub IsRefused : HeadRules → List ℕ → Stop → Refusal → Manner → Type 0
 IsRefused p bytes stop BadRequest v =
     ((line : Option HTTPVersion)

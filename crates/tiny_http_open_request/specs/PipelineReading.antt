@@ -1,5 +1,5 @@
 -- The pipeline of a feed as a computation: from the heading at each position, which under `Lenient` and `Strict` is
--- itself computed. The law of pipelines is proved from it.
+-- itself computed. The law `one_pipeline` is proved from it.
 use Rattle.std.specs.Prelude.{ℕ, zero, suc, ◌+◌, Bool, true, false, nat_lt, nat_le, List, [], ◌∷◌, ◌++◌, length, take}
 use Rattle.std.specs.Prelude.{drop, Option, Some, None, unwrap_or, Result, Ok, Err, if◌then◌else◌}
 use Rattle.tiny_http_io.specs.declared.device.Stop.{Stop}
@@ -42,7 +42,7 @@ sized_read n after stop =
     then record { body = record { bytes = after; stop = stop }; next = None }
     else record { body = record { bytes = take n after; stop = End }; next = Some (drop n after) }
 
--- the reading of a body with a Content-Length, which stops as its profile requires if it is cut
+-- the result of reading a body with a Content-Length, which, if it is cut, stops as its profile requires
 abbrev pub counted_read : Bool → ℕ → List ℕ → Stop → BodyRead
 counted_read standard n after stop = sized_read n after (cut_stop standard stop)
 
@@ -53,7 +53,8 @@ body_read standard Counted n after stop = counted_read standard n after stop
 body_read standard Rest n after stop = record { body = record { bytes = after; stop = stop }; next = None }
 body_read standard Chunked n after stop = chunked_read (decoded_by (chunk_rules standard) (length after + 1) stop after)
 
--- the heading of a head that is cut, or whose body is read with it and is cut
+-- the heading of a head that is cut, or whose body is read with it and is cut: a 408 if the reader timed out, otherwise
+-- silence
 abbrev pub cut_heading : Stop → Heading
 cut_heading stop = if is_timed_out stop then Refused RequestTimeout (plainly (version 1 1)) else Silence
 
@@ -62,7 +63,7 @@ whole_heading m after stop (Err fault) = Refused (framing_refusal fault) (plainl
 whole_heading m after stop (Ok f) =
     if is_cut_with_head f.form (body_length_or_0 f) after then cut_heading stop else Heads m f after
 
--- whether at least as many bytes have arrived as the limit allows
+-- whether at least as many bytes have arrived as the limit allows; false without a limit
 abbrev pub is_full : Option ℕ → List ℕ → Bool
 is_full None bytes = false
 is_full (Some limit) bytes = nat_le limit (length bytes)

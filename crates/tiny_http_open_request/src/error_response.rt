@@ -239,7 +239,7 @@ impl DropText {
         print_drop(room, context, self.now)
     }
 
-    /// Prints the text in this context, and returns it, or no bytes if it was taken. Allocates nothing.
+    /// Prints the text in this context, and returns it, or no bytes if it has already been taken. Allocates nothing.
     pub fn into_text(self, context: ResponseContext) -> Vec<u8>
         ensures { result.items ≡ drop_text self context }
     {

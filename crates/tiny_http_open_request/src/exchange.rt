@@ -150,8 +150,8 @@ impl Exchange {
     /// Sends the response to this request, dated `now`, and flushes it. No 100 is owed afterwards. The caller must
     /// respond to each request exactly once, in order, and then discard the body. Under `Standard` the response says
     /// that the connection closes if the request is the last according to its head, its 100 is owed, more than 65,536
-    /// bytes of its body are unread, or the end of its body isn't known; the caller must then read no further head. A
-    /// body discarded before this call counts as read. `Response::with_close` is ignored.
+    /// bytes of a body with a `Content-Length` are unread, or the end of its body isn't known; the caller must then
+    /// read no further head. A body discarded before this call counts as read. `Response::with_close` is ignored.
     ///
     /// On an outlet that has ended this sends nothing, doesn't read the data, and returns `Ok`. Fails with the first
     /// fault of the data or of the writer (if both fail, with either), or with `OutOfMemory` if memory for data of

@@ -142,7 +142,8 @@ impl<B: Drop> OpenRequest<B> {
     }
 
     /// Returns whether no head is read after this request once its raw writer or an upgrade takes over the connection's
-    /// stream: whether it holds the next head, or `is_last_once_finished` applies.
+    /// stream: whether the next head waits for the response to this request (`holds_next_head`), or
+    /// `is_last_once_finished` holds.
     pub fn is_last_with_stream(&self, left: Remainder) -> bool
         ensures { result ≡ is_last_with_stream self.now left }
     {
@@ -380,8 +381,8 @@ impl OpenRequest<UnreadBody> {
     }
 }
 
-// Returns the coding that the headers of a request ask for: under `Standard`, `Chunked` or `None` (RFC 9110, section
-// 10.1.4).
+// Returns the coding that the headers of a request ask for (RFC 9110, section 10.1.4): under `Standard`, `Chunked` or
+// `None`; under another profile, what `asked_coding` (`tiny_http_response`) returns.
 #[inline(always)]
 fn coding_for(by_standard: bool, headers: &[Header]) -> Option<Coding>
     ensures { result ≡ coding_for by_standard headers.now }

@@ -140,7 +140,7 @@ fn end_at(input_state: InputState, why: EndOfRequests) -> EndOfRequests
 ///
 /// Under `Standard` the caller must read no head before a request that asks for an upgrade is answered or dropped, none
 /// after such a request was upgraded or its raw writer was taken, and none after a request that was finished while its
-/// 100 was owed or more than 65,536 bytes of its body were unread. `Connection` ensures that.
+/// 100 was owed or more than 65,536 bytes of a body with a `Content-Length` were unread. `Connection` ensures that.
 ///
 /// `read_head`, `read_body` and `give_up` on one source never read bytes of a body as a head. If the previous body was
 /// neither read to its end nor discarded, the result is `UnreadBody`, and the source ends.

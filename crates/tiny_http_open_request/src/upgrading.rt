@@ -31,7 +31,7 @@ pub enum UpgradeError {
     /// Under `Standard`: the response's code isn't 101.
     #[error("the status code of an upgrade is 101")]
     Status,
-    /// Under `Standard`: the request's body wasn't read to its end, or it was cut or is broken.
+    /// Under `Standard`: the request's body was cut, is broken, or was neither read with the head nor read to its end.
     #[error("the request's body is not whole")]
     UnfinishedBody,
     /// On a server with limits: the maximum number of upgraded connections has been reached.

@@ -17,7 +17,7 @@ use Rattle.tiny_http_request.specs.declared.body.GivesOn.TheVariants.{AfterBody,
 use Rattle.tiny_http_body.specs.Body.{Remaining, is_streaming, body_stop, BodyStops, ReadsOn, remaining, prepended_body}
 use Rattle.tiny_http_body.specs.Body.{is_whole, stream_body}
 
--- whether the input isn't passed on when the body ends, but held until the request is answered or dropped
+-- whether the body keeps the input after its own end, until its request is answered or dropped
 abbrev pub outlasts_body : GivesOn → Bool
 outlasts_body AfterBody = false
 outlasts_body AfterAnswer = true
@@ -27,20 +27,20 @@ outlasts_body Never = false
 pub record BodyState : Type 0 where
   -- how far the body was read
   pub unread : UnreadBody
-  -- What the connection's input still gives, if the body holds it. If the body passed the input on: what the input gave
-  -- when the body was made. If the body never held the input: an ended feed.
+  -- What the connection's input still gives, if the body holds it. If the body has passed the input on: what the input
+  -- gave when the body was made. If the body never held the input: an ended feed.
   pub input : Option Feed
   -- whether the body holds the input, and whether it still does after the body's end, until its request is answered or
   -- dropped
   pub holds_input : Bool
   pub outlasts : Bool
 
--- what the input gave when a body was made; an ended feed if the body held no input
+-- the feed of the input when a body was made, or an ended feed if the body didn't hold the input then
 abbrev pub begun_feed : {R : Type 0} → Option (Remembered (SourceState R)) → Option Feed
 begun_feed (Some source) = source.value.feed
 begun_feed None = Some (stopped End)
 
--- what the input gives if a reader holds it, or what it gave when the body was made
+-- the feed of the input if a reader holds it, and otherwise its feed when the body was made (`begun_feed`)
 abbrev pub input_of : {R Rt : Type 0} → Option (HeldReader (SourceState R) Rt) → Option (Remembered (SourceState R))
     → Option Feed
 input_of (Some reader) begun = (held_item reader).feed
@@ -59,20 +59,21 @@ pub record KeepsLeft (old new : BodyState) : Type 0 where
   pub unread : new.unread ≡ old.unread
   pub left : body_left new ≡ body_left old
 
--- the body of a request once its connection is upgraded: under Standard all that comes, if the body holds the input
+-- the body of a request once its connection is upgraded: under `Standard`, if the body holds the input, all further
+-- input; otherwise the same body
 abbrev pub upgraded_body : Bool → BodyState → BodyState
 upgraded_body by_standard b = record b { unread = stream_body (by_standard && b.holds_input) b.unread }
 
--- Whether a body passes the input on once it isn't read from the input any more, unless the next head waits for the
--- response.
+-- Whether a body holds the input after a call exactly if it is still read from there, or if it keeps the input until
+-- its request is answered or dropped (`outlasts`), which doesn't change.
 pub record GivesOnInput (old new : BodyState) : Type 0 where
   pub outlasts : new.outlasts ≡ old.outlasts
   pub holds_input : new.holds_input ≡ (is_streaming new.unread || old.outlasts)
 
--- ONE READ OF A BODY: how far the body was read, and what holds even if the connection's reader states no feed; `Reads`
--- defines the bytes. A body that came with its head gives its next bytes, and none only at its end. A body that reports
--- its end is read no further, and no fault ended it. A body that is over reports its end or fault again. A read into an
--- empty buffer changes nothing.
+-- ONE READ OF A BODY: what holds even if the connection's reader states no feed; `Reads` of `tiny_http_io` states which
+-- bytes come. A body that came with its head returns its next bytes, and 0 only at its end. A body that reports its end
+-- is read no further, and no fault ended it. A body that is over reports its end or fault again. A read into an empty
+-- buffer changes nothing.
 pub record ReadsUnread (old new : BodyState) (r : Result ℕ Error) (buf : List ℕ) : Type 0 where
   pub held : is_streaming old.unread ≡ false → (feed : Option Feed)
       → IfOk r (λ n. remaining old.unread feed ≡ prepended_body (take n buf) (remaining new.unread feed))

@@ -56,7 +56,8 @@ abbrev pub source_here : {R : Type 0} → {Rt : Type 0} → NextHead R Rt → Op
 source_here (Here reader) = Some (held_item reader)
 source_here (Behind reader) = None
 
--- THE INPUT OF A CONNECTION, if the connection holds it: the last request didn't take it, and there is a next head
+-- THE INPUT OF A CONNECTION, if the connection holds it, that is, if the last request didn't take it and a further head
+-- is to be read
 abbrev pub client_source : {R W Rt : Type 0} → ClientConnection R W Rt → Option (SourceState R)
 client_source c = option_and_then source_here c.next_head
 

@@ -45,7 +45,7 @@ request_secure r = r.client.secure
 abbrev pub request_address : {R : Type 0} → {W : Type 0} → {Rt : Type 0} → Request R W Rt → Option SocketAddr
 request_address r = r.client.remote_addr
 
--- what is kept of a request until it is answered, with how far its body was read
+-- what is kept of a request until it is answered, with the unread part of its body
 abbrev pub request_open : {R : Type 0} → {W : Type 0} → {Rt : Type 0} → Request R W Rt → OpenRequest UnreadBody
 request_open r = with_body r.open_request r.open_request.body.unread
 
@@ -53,7 +53,7 @@ request_open r = with_body r.open_request r.open_request.body.unread
 abbrev pub request_body : {R : Type 0} → {W : Type 0} → {Rt : Type 0} → Request R W Rt → BodyState
 request_body r = r.open_request.body
 
--- whether a call failed with `InvalidInput`, as it does if the response is refused
+-- whether a call failed with `InvalidInput`, as it does if the status code is refused
 abbrev pub IsInvalidInput : {T : Type 0} → Result T Error → Type 0
 IsInvalidInput (Ok x) = ⊥
 IsInvalidInput (Err e) = error_kind e ≡ InvalidInput
@@ -75,13 +75,14 @@ abbrev pub cut_kind : Stop → ErrorKind
 cut_kind End = ConnectionAborted
 cut_kind (Fault kind) = kind
 
--- whether a body with this framing is read at once and cut short, and an error of this kind reports that
+-- whether a body with this framing is read at once and cut short, and an error of this kind reports that, if the feed
+-- is stated
 abbrev pub IsCutShort : Framing → Option Feed → ErrorKind → Type 0
 IsCutShort f None kind = ⊤
 IsCutShort f (Some x) kind = IsCutWithHead f.form (body_length_or_0 f) x.bytes × (kind ≡ cut_kind x.stop)
 
 -- whether the body after a head with this version and these headers is read at once and cut short, and an error of this
--- kind reports that
+-- kind reports that, if the feed is stated
 abbrev pub CutsShort : HTTPVersion → List Header → Option Feed → ErrorKind → Type 0
 CutsShort v headers feed kind = (f : Framing) × (framing Lenient v headers ≡ Ok f) × IsCutShort f feed kind
 
@@ -112,8 +113,8 @@ FailsBy e version headers feed =
 abbrev pub asks_for : Head → List ℕ → Bool
 asks_for h protocol = is_upgrade h && has_element (codes "Upgrade") protocol h.headers.items
 
--- whether the reader of an upgrade's stream gives what is left of the request's body; under Standard all that comes, if
--- the body holds the input
+-- whether the reader of an upgrade's stream returns what is left of the request's body or, under `Standard` and if the
+-- body holds the input, all further input
 abbrev pub ReadsStream : {R : Type 0} → {W : Type 0} → {Rt : Type 0} → Request R W Rt → BodyState → Type 0
 ReadsStream r body = KeepsLeft (upgraded_body (request_open r).by_standard (request_body r)) body
 

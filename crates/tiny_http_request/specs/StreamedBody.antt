@@ -1,4 +1,4 @@
--- The parts of the body of a response that grows while it is sent that contracts refer to.
+-- The parts of a `StreamedBody` that contracts refer to.
 use Rattle.tiny_http_body.specs.declared.streamed.StreamedForm.{StreamedForm}
 use Rattle.tiny_http_request.specs.declared.streamed_body.StreamedBody.{StreamedBody}
 

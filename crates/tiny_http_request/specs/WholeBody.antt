@@ -1,4 +1,4 @@
--- What clauses state of a body that is read whole.
+-- The definitions that contracts refer to for a body that is read whole.
 use Rattle.std.specs.Prelude.{◌≡◌, ◌⊎◌, ◌<◌, ⊤, ℕ, true, List, Option, Some, None}
 use Rattle.std.specs.IoError.{error_kind}
 use Rattle.std.specs.declared.io.Error.{Error}
@@ -30,7 +30,7 @@ fault_error form e = error_by form (error_kind e) e
 
 -- Why reading the rest of a body failed, whatever its form. `TooLong`: a body of unknown length, with no fault reported
 -- before, has more bytes than the limit. `Cut`: the bytes of a body that is read from the input ended early. `Broken`:
--- never. `Io`: a fault was reported. `Memory` is unrestricted.
+-- never. `Io`: this fault was reported, and each later read reports it. `Memory` is unrestricted.
 abbrev pub FailsReading : UnreadBody → UnreadBody → BodyError → Type 0
 FailsReading old new TooLong = (bytes_left old ≡ None) × ((kind : ErrorKind) → body_stop old ≡ Some (Fault kind) → ⊥)
 FailsReading old new Cut = (is_streaming old ≡ true) × IsBodyOver new

@@ -22,11 +22,11 @@ use tiny_http_threads::held_reader::HeldReader;
 // When the body passes the connection's input on to the next head.
 #[derive(Drop)]
 pub(crate) enum GivesOn {
-    // Once the body was read to its end or given up.
+    // Once the body has been read to its end or given up.
     AfterBody,
-    // Once the request, which asks for an upgrade, was answered or dropped.
+    // Once the request, which asks for an upgrade, has been answered or dropped.
     AfterAnswer,
-    // Once the body was read to its end or given up, but no head follows.
+    // Once the body has been read to its end or given up, but then no head follows.
     Never,
 }
 
@@ -40,8 +40,8 @@ fn end_behind<R: ReadDevice + Drop, Rt: Wait + Drop>(reader: HeldReader<Source<R
 ///
 /// While bytes of it are to be read from the connection, the body holds the connection's input, and the next head
 /// waits. A body with a content length passes the input on with its last byte, a chunked one once a read has returned
-/// 0, and a dropped one at once. No head follows a dropped chunked body whose end wasn't reported, nor a body that is
-/// cut or broken.
+/// 0, and a dropped one at once. No head follows a dropped chunked body whose end hadn't been reported, nor a body that
+/// is cut or broken.
 ///
 /// Under `Standard` the body of a request that asks for an upgrade holds the input until the request is answered or
 /// dropped. No head follows if the request's raw writer is taken or the request is upgraded; once upgraded, its body
@@ -165,9 +165,9 @@ impl<R: ReadDevice + Drop, Rt: Wait + Drop> Body<R, Rt> {
         }
     }
 
-    /// Ends the requests after this body's request, which asks for an upgrade, owes a 100, or has more of its body
-    /// unread than is skipped, so that the body holds the input. If the body isn't read from the input any more, the
-    /// input is passed on at once.
+    /// Ends the requests: no head is read after this body's request, which asks for an upgrade, owes a 100, or has more
+    /// of its body unread than is skipped, so that the body holds the input. If the body is no longer read from the
+    /// input, the input is passed on at once.
     pub(crate) fn end_requests(&mut self)
         ensures { KeepsLeft self.old self.new }
     {
@@ -213,8 +213,8 @@ impl<R: ReadDevice + Drop, Rt: Wait + Drop> Body<R, Rt> {
 impl<R: ReadDevice + Drop, Rt: Wait + Drop> ReadDevice for Body<R, Rt> {
     ghost feed = { body_left };
 
-    /// Reads some bytes of the body. Returns 0 after its last byte, or fails with the fault by which the body is cut or
-    /// broken, and does the same from then on.
+    /// Reads some bytes of the body, and returns how many. After the last byte a read into a nonempty `buf` returns 0,
+    /// or fails with the fault by which the body is cut or broken, and so does each later one.
     fn read_in(&mut self, buf: &mut [u8]) -> Result<usize, io::Error>
         ensures reads { Reads (body_left self.old) (body_left self.new) result buf.new }
         ensures body { ReadsUnread self.old self.new result buf.new }
@@ -237,7 +237,7 @@ fn read_behind<R: ReadDevice>(reader: &mut R, buf: &mut [u8], at: usize) -> io::
     reader.read_in(&mut buf[at..])
 }
 
-// Reads until the buffer is full. Fails at the first fault, or at the end with `UnexpectedEof`.
+// Reads until the buffer is full. Fails with the first fault, or with `UnexpectedEof` if the end comes first.
 fn read_whole<R: ReadDevice>(reader: &mut R, buf: &mut [u8]) -> io::Result<()>
     ensures { OnOk result (R.feed reader.old ≡ prepended buf.new (R.feed reader.new)) }
 {

@@ -40,7 +40,7 @@ pub(crate) struct Client {
 /// The state that a request shares with its connection.
 #[derive(Drop)]
 pub(crate) struct Links {
-    /// Whether the connection's flushes may hold their bytes, if they ever may.
+    /// The policy by which the connection's flushes may hold their bytes back, if there is one.
     pub flush_policy: Option<Arc<FlushPolicy>>,
     /// The connection's timers, if they are set. A request has them only if it reads from the connection.
     pub timers: Option<Arc<ConnectionTimers>>,
@@ -61,12 +61,12 @@ pub struct ClientConnection<R: ReadDevice + Drop, W: WriteDevice + Drop, Rt: Wai
     next_head: Option<NextHead<R, Rt>>,
 }
 
-// Where the next head is read.
+// Where the next head is read from.
 #[derive(Drop)]
 enum NextHead<R: ReadDevice + Drop, Rt: Wait + Drop> {
-    // On the input, which the connection holds.
+    // The input, which the connection holds.
     Here(HeldReader<Source<R>, Rt>),
-    // After the previous request, which took the input.
+    // The input, once the previous request, which took it, has passed it on.
     Behind(SequentialReader<Source<R>, Rt>),
 }
 
@@ -207,8 +207,8 @@ impl<R: ReadDevice + Drop, W: WriteDevice + Drop, Rt: Wait + Copy> ClientConnect
     ///
     /// The policy lets them once the connection hands out a request whose turn has come, whose body isn't read from the
     /// connection, and which asks for no upgrade under `Standard`; it stops when any other request is handed out. A raw
-    /// writer, an upgrade, a streamed body and a 100 stop it too. The caller has the `Cork` of this policy send the
-    /// held bytes: with `send_unless_leaving` after each `next`, and with `send` at the end.
+    /// writer, an upgrade, a streamed body and a 100 stop it too. The caller must have the `Cork` of this policy send
+    /// the held bytes: with `send_unless_leaving` after each `next`, and with `send` at the end.
     pub fn set_flush_policy(&mut self, flush_policy: Arc<FlushPolicy>)
         ensures over { IsOver self.new ↔ IsOver self.old }
         ensures input { client_source self.new ≡ client_source self.old }
@@ -241,16 +241,16 @@ impl<R: ReadDevice + Drop, W: WriteDevice + Drop, Rt: Wait + Copy> ClientConnect
         Ok(())
     }
 
-    /// Reads the next request and hands it out, or returns `None`, from then on, if the connection has no further
-    /// request. `now` dates the responses to refused heads, and the 500 of this request if it is dropped. Fails if
-    /// memory is refused; then each later call returns `None`.
+    /// Reads the next request and hands it out. If the connection has no further request, this call and each later one
+    /// return `None`. `now` dates the responses to refused heads, and the 500 of this request if it is dropped. Fails
+    /// if memory is refused; then each later call returns `None`.
     ///
     /// The call waits for the client, and until the last request's body, if it holds the input, is read to its end or
     /// given up. Under `Standard` it also waits until a request that asks for an upgrade is answered or dropped: a
-    /// program that makes this call on the same thread does that first. It returns `None` after such a request if its
-    /// raw writer was taken or it was upgraded; if the stream of the upgrade still reads, the call first waits until
-    /// the stream has ended. Under `Standard` it also returns `None` after a request that was finished while its 100
-    /// was owed, or while more than 65,536 bytes of a body with a `Content-Length` were unread.
+    /// program that makes this call on the same thread must do that first. It returns `None` after such a request if
+    /// its raw writer was taken or it was upgraded; if the stream of the upgrade still reads, the call first waits
+    /// until the stream has ended. Under `Standard` it also returns `None` after a request that was finished while its
+    /// 100 was owed, or while more than 65,536 bytes of a body with a `Content-Length` were unread.
     ///
     /// It also returns `None` once a response made with `with_close` has been sent; a call that waits for the client
     /// then returns when the client sends a head, or sends no more. The client of a socket sees end of file after the
@@ -306,9 +306,9 @@ impl<R: ReadDevice + Drop, W: WriteDevice + Drop, Rt: Wait + Copy> ClientConnect
         }
     }
 
-    /// Waits until all that was handed out is answered: each request was answered or dropped, or its raw writer or
-    /// stream was dropped, and the refused heads were answered. After that nothing reads or writes the connection,
-    /// unless the next request is asked for. Fails if memory is refused.
+    /// Waits until all that was handed out is answered: each request has been answered or dropped, or its raw writer or
+    /// stream has been dropped, and the refused heads have been answered. After that nothing reads or writes the
+    /// connection, unless the next request is asked for. Fails if memory is refused.
     pub fn wait_for_answers(&mut self) -> Result<(), AllocError>
         ensures over { IsOver self.new ↔ IsOver self.old }
         ensures input { client_source self.new ≡ client_source self.old }
@@ -321,8 +321,8 @@ impl<R: ReadDevice + Drop, W: WriteDevice + Drop, Rt: Wait + Copy> ClientConnect
         Ok(())
     }
 
-    // Hands out a request that was read by this reader and is answered on this writer. The request takes the reader if
-    // its body is read from it, or if the next head waits for its response.
+    // Hands out a request that was read from this reader and is answered through this writer. The request takes the
+    // reader if its body is read from it, or if the next head waits for its response.
     fn hand_out(
         &mut self,
         reader: HeldReader<Source<R>, Rt>,
@@ -369,8 +369,8 @@ impl<R: ReadDevice + Drop, W: WriteDevice + Drop, Rt: Wait + Copy> ClientConnect
     }
 }
 
-// Returns where the head after a request is read, if one is: on the input if `held` has it, or after the request that
-// took the input.
+// Returns where the head after a request is read from, or `None` if the request is the last: from the input if `held`
+// has it, and otherwise from the input once the request that took it has passed it on. Fails if memory is refused.
 fn next_head<R: ReadDevice + Drop, Rt: Wait + Copy>(
     source: &mut SequentialReaderBuilder<Source<R>, Rt>,
     is_last: bool,
@@ -463,8 +463,8 @@ impl<W: WriteDevice + Drop, Rt: Wait + Copy> RefusalPlace<SequentialWriterBuilde
     // No contract states what is under a lock.
     ghost refuses = { λ _ _ _ _ _ _. ⊤ };
 
-    // Takes the next turn, and leaves the response in it. Fails if memory is refused, if 2^64 - 1 writers were issued,
-    // or if the connection is to end.
+    // Takes the next turn, and leaves the response in it. Fails if memory is refused, if 2^64 - 1 writers have been
+    // issued, or if the connection is to end.
     fn refuse(
         &mut self,
         sink: &mut SequentialWriterBuilder<Outlet<W>, Rt>,

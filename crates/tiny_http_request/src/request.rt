@@ -327,8 +327,8 @@ impl<R: ReadDevice + Drop, W: WriteDevice + Drop, Rt: Wait + Drop> Request<R, W,
     }
 
     /// Reads the body to its end, at most `most` bytes. If a 100 is owed it is sent first, dated `now`, in the turn of
-    /// the request: the call waits until the earlier requests are finished. Bytes that were read before aren't in the
-    /// result. Memory is taken as bytes come, and not for a stated length.
+    /// the request: the call waits until the earlier requests are finished. Bytes that have already been read aren't in
+    /// the result. Memory is taken as bytes come, and not for a stated length.
     ///
     /// Fails with `TooLong` if more than `most` bytes are left: at once if the length is known, and then nothing is
     /// sent or read; otherwise once `most` bytes and one more have been read. Fails with `Cut` if the client's bytes
@@ -403,9 +403,9 @@ impl<R: ReadDevice + Drop, W: WriteDevice + Drop, Rt: Wait + Drop> Request<R, W,
     /// response says `Connection: close`: this one, or that to a later request or refused head. The response to a later
     /// request doesn't say it if that request was already dropped, is upgraded, or its raw writer is taken.
     ///
-    /// Under each profile the writer signals that no byte follows once that last response is flushed: the client of a
-    /// socket then sees end of file, even while a thread waits for the next head. It signals nothing after a raw writer
-    /// or an upgrade, nor after responses that waited for the turn of that writer or upgrade to end.
+    /// Under each profile the writer signals that no byte follows once that last response has been flushed: the client
+    /// of a socket then sees end of file, even while a thread waits for the next head. It signals nothing after a raw
+    /// writer or an upgrade, nor after responses that waited for the turn of that writer or upgrade to end.
     pub fn respond<D: ReadDevice + Drop>(
         self,
         response: Response<D>,
@@ -475,7 +475,7 @@ impl<R: ReadDevice + Drop, W: WriteDevice + Drop, Rt: Wait + Drop> Request<R, W,
     }
 
     /// Takes the raw writer in place of a response, and gives up the body. The client gets only what is written, after
-    /// a 100 that was sent before. The turn ends when the writer is dropped. Under `Standard` no request follows one
+    /// the 100 if one has been sent. The turn ends when the writer is dropped. Under `Standard` no request follows one
     /// that asks for an upgrade, whose 100 is owed, or that has a body with a `Content-Length` of which more than
     /// 65,536 bytes are unread.
     pub fn into_writer(self) -> SequentialWriter<Outlet<W>, Rt> {
@@ -525,7 +525,7 @@ impl<R: ReadDevice + Drop, W: WriteDevice + Drop, Rt: Wait + Drop> Request<R, W,
 
     /// Upgrades as `upgrade` does, but under each profile only if the head asks for this protocol: `is_upgrade`
     /// applies, and the `Upgrade` headers list it; otherwise it fails with `NotAsked`. If the upgrade is refused,
-    /// nothing was sent, and the error returns the request, which can still be answered. The response is dropped.
+    /// nothing has been sent, and the error returns the request, which can still be answered. The response is dropped.
     pub fn try_upgrade<D: Drop>(
         self,
         protocol: &str,
@@ -588,8 +588,8 @@ impl<R: ReadDevice + Drop, W: WriteDevice + Drop, Rt: Wait + Drop> Request<R, W,
         }
     }
 
-    /// Returns whether a response would be lost, on a server with limits: an earlier response broke off the
-    /// connection's output, or a raw writer closed it.
+    /// Returns whether a response would be lost, because an earlier response broke off or ended the connection's
+    /// output, or a raw writer closed it. Always false on a server without limits.
     pub fn is_lost(&self) -> bool {
         self.writer.is_broken()
     }

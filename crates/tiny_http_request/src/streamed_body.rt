@@ -62,7 +62,8 @@ impl<W: WriteDevice + Drop, Rt: Wait + Drop> StreamedBody<W, Rt> {
 impl<W: WriteDevice + Drop, Rt: Wait + Drop> Write for StreamedBody<W, Rt> {
     ghost use Rattle.std.specs.Io.{WritesAtMost};
 
-    /// Takes some of the bytes, at least one if there is one, and returns how many.
+    /// Takes some of the bytes, at least one unless `buf` is empty, and returns how many. Fails with the first fault of
+    /// the client's writer, and with `BrokenPipe` after it.
     fn write(&mut self, buf: &[u8]) -> io::Result<usize>
         ensures bound { WritesAtMost result buf.now }
     {

@@ -78,8 +78,8 @@ impl<Rt: Wait + Copy> Recorder<Rt> {
         })
     }
 
-    /// Returns all bytes that were written so far, by this recorder and its clones. `answer::read_answer` reads the
-    /// responses in them. Fails if memory is refused.
+    /// Returns all bytes that have been written so far, through this recorder and its clones. `answer::read_answer` of
+    /// `tiny_http` reads the responses in them. Fails if memory is refused.
     pub fn bytes(&self) -> Result<Vec<u8>, AllocError> {
         self.bytes.lock(&self.rt).as_slice().to_vec(self.alloc)
     }
@@ -112,7 +112,7 @@ impl<Rt: Wait + Drop> WriteDevice for Recorder<Rt> {
     }
 }
 
-/// The body of a test's request.
+// The body of a test's request.
 #[derive(Drop)]
 enum TestBody {
     Text(&'static str),

@@ -18,7 +18,7 @@ use thiserror::Error;
 use tiny_http_body::framing::Form;
 use tiny_http_io::device::ReadDevice;
 
-// The number of bytes read at once.
+// Maximum number of bytes that are read at a time.
 const PIECE: usize = 4096;
 
 /// An error of `read_body`.
@@ -68,8 +68,8 @@ impl From<BodyError> for io::Error {
 
     ghost from_gives = { IsFaultOfBody };
 
-    /// Returns the reader's fault itself, or `InvalidInput` for `TooLong`, `UnexpectedEof` for `Cut`, `InvalidData` for
-    /// `Broken` and `OutOfMemory` for `Memory`.
+    /// Returns the reader's fault itself for `Io`, `InvalidInput` for `TooLong`, `UnexpectedEof` for `Cut`,
+    /// `InvalidData` for `Broken` and `OutOfMemory` for `Memory`.
     fn from(error: BodyError) -> io::Error {
         match error {
             BodyError::TooLong => ErrorKind::InvalidInput.into(),
@@ -124,7 +124,8 @@ fn read_exactly<R: ReadDevice + Drop, Rt: Wait + Drop>(
     Ok(bytes)
 }
 
-// Reads a body of unknown length to its end, at most `most` bytes. It reads one byte more if the body is longer.
+// Reads a body of unknown length to its end, at most `most` bytes. If the body is longer, it reads one byte more, and
+// fails with `TooLong`.
 fn read_to_end<R: ReadDevice + Drop, Rt: Wait + Drop>(
     alloc: Global,
     body: &mut Body<R, Rt>,

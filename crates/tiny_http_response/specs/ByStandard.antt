@@ -54,13 +54,14 @@ safe_header h = if is_token h.field then Some (record h { value = safe_value h.v
 abbrev pub safe_headers : List Header → List Header
 safe_headers headers = filter_map safe_header headers
 
--- the headers that were added to a response, made safe under `Standard`
+-- the headers that were added to a response; under `Standard` only those whose name is a token, each with a safe value
 abbrev pub own_headers : Option Persistence → List Header → List Header
 own_headers None headers = headers
 own_headers (Some _) headers = safe_headers headers
 
 -- The headers listed after the date of a response that isn't an upgrade: those that were added to it. Under `Standard`
--- these are made safe, and those of `connection_headers` come before them, except for a code below 200.
+-- only those whose name is a token are listed, each with a safe value; and unless the code is below 200, the headers of
+-- `connection_headers` come before them.
 abbrev pub listed_headers : Option Persistence → HTTPVersion → ℕ → Option (List ℕ) → List Header → List Header
 listed_headers None version status offered headers = headers
 listed_headers (Some says) version status offered headers =

@@ -93,8 +93,8 @@ pub(crate) fn add(
     }
 }
 
-/// Adds these headers one after another. If memory for one is refused, the error hands it back, and the rest are
-/// dropped.
+/// Adds these headers one after another. If memory for one is refused, the error hands it back, those before it stay in
+/// the list, and the rest are dropped.
 pub(crate) fn add_all(
     headers: &mut Vec<Header>,
     data_length: &mut Option<usize>,
@@ -137,7 +137,7 @@ fn replace_type(headers: &mut [Header], kept: usize, at: usize)
     replace_value(&mut front[..kept], "Content-Type", &mut rest[0].value);
 }
 
-// Adds the header at `at` to the first `kept` headers, and returns the new number of these. The headers after `at` are
+// Adds the header at `at` to the first `kept` headers, and returns the new count of these. The headers after `at` are
 // unchanged.
 fn add_at(headers: &mut [Header], data_length: &mut Option<usize>, kept: usize, at: usize) -> usize
     requires order { kept ≤ at }

@@ -195,7 +195,7 @@ fn put_status<W: WriteDevice>(writer: &mut W, head: &ResponseHead<'_>) -> Result
 
 // Writes the headers that the response lists, which come between `Date` and the framing header. Under
 // `Profile::Standard` they are written by `put_safe_headers`, after `Connection` and `Upgrade` if these are needed; an
-// upgrade or a code below 200 never has these two here.
+// upgrade and a response with a code below 200 have neither of them here.
 fn put_listed<W: WriteDevice>(
     writer: &mut W,
     head: &ResponseHead<'_>,
@@ -238,8 +238,9 @@ fn put_lines<W: WriteDevice>(
 
 /// Writes the head of a response: status line, field lines and an empty line (RFC 9112, sections 4 and 5). Under
 /// `Profile::Standard`, the status line has version 1.1; except for an upgrade and a code below 200, `Connection`
-/// states that the connection closes, or for versions up to 1.0 that it persists, and `Upgrade` offers protocols; a
-/// header whose name isn't a token is omitted, and any other takes one line. A head of up to 512 bytes is one write.
+/// states that the connection closes, or for versions up to 1.0 that it persists, and `Upgrade` offers the response's
+/// protocols, if any; a header whose name isn't a token is omitted, and any other takes one line. A head of up to 512
+/// bytes is one write.
 pub(crate) fn put_head<W: WriteDevice>(
     writer: &mut W,
     head: &ResponseHead<'_>,

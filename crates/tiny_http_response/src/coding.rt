@@ -75,9 +75,9 @@ pub fn asked_coding(request_headers: &[Header]) -> Option<Coding>
 }
 
 /// Chooses the coding of a response (RFC 9112, sections 6.1 and 7.4; as in the Rust crate). It is `Identity` for a
-/// version up to 1.0, for a status below 200, and for a 204. Otherwise it is what the request asks for, as
-/// `asked_coding` returns it. If the request asks for none, it is `Chunked` if the length of the data, in bytes, is
-/// unknown or at least the threshold, and `Identity` if the length is below the threshold.
+/// version up to 1.0, for a status below 200, and for a 204. Otherwise it is `asked`, the coding that the request asks
+/// for. If the request asks for none, it is `Chunked` if the length of the data, in bytes, is unknown or at least the
+/// threshold, and `Identity` if the length is below the threshold.
 pub fn choose(
     version: HTTPVersion,
     asked: Option<Coding>,

@@ -7,7 +7,7 @@ use std::io;
 use std::io::ErrorKind;
 use tiny_http_io::device::ReadDevice;
 
-/// A reader that requires `left` more bytes of its inner reader: an end before the last of them is reported as
+/// A reader that requires `left` more bytes from its inner reader: an end before the last of them is reported as
 /// `UnexpectedEof`. Bytes past them pass unchanged.
 #[derive(Drop)]
 pub(crate) struct OwingReader<R> {

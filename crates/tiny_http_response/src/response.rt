@@ -334,10 +334,10 @@ impl<R> Response<R> {
 
     /// Closes the connection after this response (RFC 9112, section 9.6). Once a `Connection` or a `Request` has sent
     /// it, no further request is handed out; requests already handed out can still be answered. Under
-    /// `Profile::Standard` the last response on the connection has `Connection: close`: this one, if no later request
-    /// has been handed out. With `Request`s, a socket's client sees end of file after the last response; a `Connection`
-    /// closes nothing. Upgrades and `Exchange` ignore this setting, and it doesn't change the bytes that `raw_print`
-    /// and `print` print.
+    /// `Profile::Standard` the last response on the connection (this one, if no later request has been handed out) has
+    /// `Connection: close`, unless it was already made. With `Request`s, a socket's client sees end of file after the
+    /// last response; a `Connection` closes nothing. Upgrades and `Exchange` ignore this setting, and it doesn't change
+    /// the bytes that `raw_print` and `print` print.
     pub fn with_close(self) -> Response<R>
         ensures { result ≡ record self { answer = record self.answer { closes = true } } }
     {
@@ -401,8 +401,9 @@ impl<R> Response<R> {
     /// Returns whether a client reads each header as intended (RFC 9110, section 5.5; RFC 9112, section 5): the name
     /// has no white space (bytes 9 to 13 and 32) and no colon; the value is trimmed and has no CR LF; both are ASCII.
     /// Call this if a header contains a client's text, such as a `Location` made from a decoded path: what follows a CR
-    /// LF would be read as another header. The client theorem (the law `conversation_is_read`) requires it of the
-    /// headers of a response that isn't printed under `Profile::Standard`.
+    /// LF would be read as another header. The client theorem (the law `conversation_is_read` of
+    /// `tiny_http_connection_laws`) requires it of the headers of a response that isn't printed under
+    /// `Profile::Standard`.
     pub fn is_readable(&self) -> bool
         ensures { IsTrue result ↔ AllByRecursion IsReadable self.now.answer.headers }
     {
@@ -423,7 +424,7 @@ impl<R> Response<R> {
         self.closes
     }
 
-    /// Returns the length in bytes from which data are sent in chunks: `THRESHOLD` unless another was set.
+    /// Returns the length in bytes from which on data are sent in chunks: `THRESHOLD` unless another was set.
     pub fn chunked_threshold(&self) -> usize
         ensures { result ≡ self.now.answer.threshold }
     {
@@ -436,10 +437,11 @@ impl<R> Response<R> {
     /// version and `TE`, the code, the length of the data, and the threshold. Doesn't flush.
     ///
     /// Fails with the first fault, of the writer or of the data, and writes nothing after it. Fails with
-    /// `UnexpectedEof` if the data end before their length, unless the body is omitted or sent in chunks. Reads data of
-    /// unknown length whole before the head, unless it sends them in chunks: if the data fail, or if memory is refused
-    /// (`OutOfMemory`), nothing is written. Fails with `InvalidInput`, and writes nothing, if the protocol to upgrade
-    /// to isn't ASCII.
+    /// `UnexpectedEof` if the data end before their length, unless the body is omitted or sent in chunks. If the coding
+    /// is `Identity`, data of unknown length are read whole before the head, even if the body is omitted (but not for
+    /// an upgrade, nor for a code without content if `contentless` made the response): if the data fail, or if memory
+    /// is refused (`OutOfMemory`), nothing is written. Fails with `InvalidInput`, and writes nothing, if the protocol
+    /// to upgrade to isn't ASCII.
     pub fn raw_print<W: WriteDevice>(
         self,
         alloc: Global,

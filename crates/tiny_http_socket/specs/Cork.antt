@@ -7,7 +7,7 @@ use Rattle.tiny_http_socket.specs.ReadAhead.{ahead_feed}
 use Rattle.tiny_http_socket.specs.declared.cork.FlushingReader.{FlushingReader}
 use Rattle.tiny_http_socket.specs.declared.cork.CorkedWriter.{CorkedWriter}
 
--- the feed of the read half: the bytes read ahead, and then that of the inner reader
+-- the feed of the read half: the bytes read ahead, followed by the feed of the inner reader
 abbrev pub reader_feed : {R W : Type 0} → FlushingReader R W → Option Feed
 reader_feed r = ahead_feed r.ahead
 
@@ -19,7 +19,7 @@ reader_stop_count stop_count r = stop_count r.ahead.reader
 abbrev pub writer_sink : {W Rt : Type 0} → CorkedWriter W Rt → Sink
 writer_sink w = record { taken = None; sent = []; failures = w.failures; last_kind = w.last; has_ended = false }
 
--- what a `CorkedWriter` or another such writer states before it has failed
+-- what a writer that states no bytes, such as a `CorkedWriter`, states before it has failed
 abbrev pub fresh_sink : Sink
 fresh_sink = record { taken = None; sent = []; failures = 0; last_kind = None; has_ended = false }
 

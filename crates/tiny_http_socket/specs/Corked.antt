@@ -66,7 +66,7 @@ ReportsFault old new (Ok x) kind = ⊥
 ReportsFault old new (Err e) kind = (error_kind e ≡ kind) × (new.writer ≡ old.writer) × (new.sink ≡ old.sink)
 
 -- whether all bytes taken so far were sent on, unless the writer has ended; or, if a fault of some kind hasn't been
--- reported yet, whether the bytes still stated as taken are a prefix of those
+-- reported yet, whether the bytes still stated as taken are a prefix of those stated before
 abbrev pub SentOrBroken : Sink → Sink → Option ErrorKind → Type 0
 SentOrBroken old new None =
     (new.taken ≡ old.taken) × (new.has_ended ≡ old.has_ended) × (new.has_ended ≡ false → HoldsNothing new)

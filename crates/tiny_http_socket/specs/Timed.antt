@@ -7,7 +7,8 @@ use Rattle.std.specs.declared.io.ErrorKind.TheVariants.{WouldBlock, TimedOut}
 use Rattle.tiny_http_io.specs.Device.{Sink, next_count}
 use Rattle.tiny_http_socket.specs.declared.timed_writer.TimedWriter.{TimedWriter}
 
--- the kind of a fault as it is reported under limits: the socket's own timeout becomes `TimedOut`
+-- the kind of a fault as it is reported under limits: `WouldBlock`, the socket's own timeout, becomes `TimedOut`; any
+-- other kind is unchanged
 abbrev pub kind_in_time : ErrorKind → ErrorKind
 kind_in_time WouldBlock = TimedOut
 kind_in_time kind = kind

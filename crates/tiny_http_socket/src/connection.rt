@@ -129,7 +129,7 @@ impl Connection {
     }
 
     /// Shuts down one direction or both, for this and every other handle to the connection. Fails with the system's
-    /// error, such as when the client has disconnected.
+    /// error, for example if the client has disconnected.
     pub fn shutdown(&self, how: Shutdown) -> io::Result<()> {
         match self {
             Connection::Tcp(stream) => stream.shutdown(how),
@@ -137,8 +137,8 @@ impl Connection {
         }
     }
 
-    /// Returns another handle to the same connection. Fails with the system's error, such as when no file descriptor is
-    /// left.
+    /// Returns another handle to the same connection. Fails with the system's error, for example if no file descriptor
+    /// is left.
     pub fn try_clone(&self) -> io::Result<Connection>
         ensures { IfOk result (λ other. IsSameKind self.now other) }
     {
@@ -148,8 +148,8 @@ impl Connection {
         }
     }
 
-    /// Makes TCP send each write at once (TCP_NODELAY), or gather small writes. Does nothing for a Unix socket. Fails
-    /// with the system's error.
+    /// Makes TCP send each write at once (TCP_NODELAY) if `nodelay` is true, and gather small writes if it is false.
+    /// Does nothing for a Unix socket. Fails with the system's error.
     pub fn set_nodelay(&self, nodelay: bool) -> io::Result<()> {
         match self {
             Connection::Tcp(stream) => stream.set_nodelay(nodelay),

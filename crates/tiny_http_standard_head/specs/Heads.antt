@@ -80,7 +80,7 @@ pub record HasGoodRequestLine (bytes : List ℕ) : Type 0 where
   pub line : Line (behind_empty_line bytes) text rest
   pub good : IsNoRequestLine text → ⊥
 
--- A MALFORMED LINE: whether the bytes begin with one: its LF has no CR before it, or its text satisfies `IsBad`
+-- A MALFORMED LINE: whether the bytes begin with a line whose LF has no CR before it, or whose text satisfies `IsBad`
 abbrev pub BeginsWithBadLine : (List ℕ → Type 0) → List ℕ → Type 0
 BeginsWithBadLine IsBad bytes =
     BeginsWithBareLine bytes ⊎ ((text : List ℕ) × (rest : List ℕ) × Line bytes text rest × IsBad text)
@@ -159,7 +159,7 @@ status_of (Invalid UnknownExpectation) = 417
 abbrev pub message_of : StandardHead → Message
 message_of h = record { method = h.method; path = h.target; version = h.version; headers = h.headers.items }
 
--- whether a byte of a head has come: a byte after at most one empty line
+-- whether a byte of a head has come, that is, a byte after at most one empty line
 abbrev pub is_begun : List ℕ → Bool
 is_begun bytes = not (length (behind_empty_line bytes) == 0)
 

@@ -61,7 +61,7 @@ abbrev pub is_port_number : Option ℕ → Bool
 is_port_number None = false
 is_port_number (Some n) = nat_lt 0 n && nat_lt n 65536
 
--- whether the target is in authority-form, as for CONNECT: a host, and a port from 1 to 65535
+-- whether the target is in authority-form, the form for CONNECT: a host, and a port from 1 to 65535
 abbrev pub IsAuthority : List ℕ → Type 0
 IsAuthority target =
     (host : List ℕ) × (port : List ℕ) × HostAndPort target host port × IsTrue (is_port_number (length_of port))

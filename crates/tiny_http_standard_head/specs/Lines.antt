@@ -37,8 +37,8 @@ abbrev pub authority_in : List ℕ → List ℕ
 authority_in [] = []
 authority_in (b ∷ bs) = if (b == slash || b == question_mark) then [] else b ∷ authority_in bs
 
--- whether the target begins with the scheme, compared case-insensitively and given with its ://, and its authority is a
--- host with or without a port
+-- whether the target begins with the scheme, compared case-insensitively and given with its ://, and the target's
+-- authority is a host with or without a port
 pub record HasScheme (scheme target : List ℕ) : Type 0 where
   pub front : IsTrue (same_name (take (length scheme) target) scheme)
   pub authority : IsHostWithPort (authority_in (drop (length scheme) target))

@@ -62,7 +62,7 @@ FieldIn line (Err (Refused BadLine)) = IsBadLine IsNoFieldOrEnd line
 FieldIn line (Err Memory) = IsGoodLine IsNoFieldLine line
 FieldIn line (Err _) = ⊥
 
--- the reason why no head was read if no line was found; `later` says whether the request line was already read
+-- the reason why no head was read if no line was found; `later` says whether the request line has already been read
 abbrev pub no_head : NoLine → StandardFault → Bool → NoHead
 no_head (no_line.Cut has_begun) too_long later = Unfinished (has_begun || later)
 no_head no_line.TooLong too_long later = Refused too_long

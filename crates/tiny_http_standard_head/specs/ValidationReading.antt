@@ -44,7 +44,7 @@ coded_body Behind = Err UnknownCoding
 coded_body _ = Err InvalidHead
 
 -- the length of the body, if it has one, and whether it is chunked, according to the version, the codings and the
--- content length; or the error
+-- content length; or the error if the framing is invalid or a coding is unknown
 abbrev pub body_with : HTTPVersion → Codings → Option ℕ → Result (Option ℕ × Bool) HeadError
 body_with v Absent n = Ok (n, false)
 body_with v codings n = if (is_1_0 v || is_some n) then Err InvalidHead else coded_body codings

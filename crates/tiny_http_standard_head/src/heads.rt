@@ -128,7 +128,7 @@ fn behind_empty_line(bytes: &[u8]) -> &[u8]
     bytes
 }
 
-// Parses the request line, after at most one empty line, and returns the rest of the bytes.
+// Parses the request line, after at most one empty line, and returns its parts and the rest of the bytes.
 fn read_request(
     alloc: Global,
     bytes: &[u8],
@@ -148,7 +148,7 @@ fn read_request(
     }
 }
 
-// Parses the field lines and returns the bytes after the empty line.
+// Parses the field lines and the empty line, and returns the fields and the bytes after that line.
 fn read_fields(alloc: Global, bytes: &[u8]) -> Result<(Vec<Header>, &[u8]), NoHead>
     ensures some { IfOk result (λ r. EndsFields bytes.now r.0.items r.1.now) }
     ensures none { IfErr result (λ stop. StopsFields bytes.now stop) }

@@ -85,7 +85,7 @@ fn field_in(alloc: Global, line: &[u8]) -> Result<Option<Header>, NoHead>
 }
 
 // Converts the reason why no line was found to the reason why no head was read. `too_long` is the fault to report if
-// the limit was reached; `later` says whether the request line was already read.
+// the limit was reached; `later` says whether the request line has already been read.
 fn no_head(why: NoLine, too_long: StandardFault, later: bool) -> NoHead
     ensures { result ≡ no_head why too_long later }
 {

@@ -24,7 +24,7 @@ pub(crate) enum FoundLine {
 pub(crate) enum NoLine {
     /// The source stopped before an LF and before the limit.
     Cut {
-        /// Whether a byte of the line came.
+        /// Whether a byte of the line has come.
         has_begun: bool,
     },
     /// The limit was reached without an LF.

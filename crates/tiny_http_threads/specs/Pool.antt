@@ -59,7 +59,7 @@ module _ {J : Type 0} where
       × (new ≡ record old { jobs = new.jobs; idle = old.idle - 1 })
 
   -- whether an idle worker ends; the flag is false, and nothing changes, unless a worker is idle, no job waits, and
-  -- more workers run than are kept or the pool is closed
+  -- either more than `MIN_THREADS` workers run or the pool is closed
   abbrev pub EndsIdle : Pool J → Bool → Pool J → Type 0
   EndsIdle old true new = (0 < old.idle)
       × (old.jobs ≡ [])

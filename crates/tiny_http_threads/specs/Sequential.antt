@@ -1,4 +1,4 @@
--- The parts of a sequential writer that contracts refer to.
+-- The parts of a `SequentialWriter` that contracts refer to.
 use Rattle.std.specs.Prelude.{[], None, false}
 use Rattle.tiny_http_io.specs.Device.{Sink}
 use Rattle.tiny_http_threads.specs.declared.sequential.SequentialWriter.{SequentialWriter}

@@ -58,13 +58,14 @@ module _ {W : Type 0} where
   WakesNext (Go item text) next old woken new = (woken ≡ None) × (new ≡ old)
   WakesNext (Strange item) next old woken new = (woken ≡ None) × (new ≡ old)
 
--- the item, if the number is held
+-- the item that a request for a turn returned if the number is held, and otherwise `None`
 abbrev pub taken_item : {T : Type 0} → Taking T → Option (Box T)
 taken_item (Held item) = Some item
 taken_item (IsWaiting woken) = None
 taken_item Refused = None
 
--- Whether a number that must wait is listed, once. No clause states that its thread waits on the listed condition: to
+-- Whether a number that must wait is listed afterwards, and stays as it was if it was listed before; if the number
+-- needn't wait or is refused, nothing changes. No clause states that its thread waits on the listed condition: to
 -- contracts all conditions are equal.
 abbrev pub ListsWaiter : {T : Type 0} → Taking T → ℕ → List (ℕ × Arc Condvar Global) → List (ℕ × Arc Condvar Global)
     → Type 0

@@ -6,13 +6,15 @@
 //! Who may touch what:
 //!
 //! - A value that threads share is under one lock, and a function here takes it only for steps in memory. No function
-//! holds two locks, and none reads, writes or runs a job under one. - In `turn_queue` and `sequential` the lock is over
-//! the numbers: whose turn it is, which texts were left, who waits. The reader or writer itself goes to the thread that
-//! holds the turn, and only that thread touches it. A thread that leaves or finishes a turn doesn't wait for any turn.
+//!   holds two locks, and none reads, writes or runs a job under one.
+//! - In `turn_queue` and `sequential` the lock is over the numbers: whose turn it is, which texts were left, who waits.
+//!   The reader or writer itself goes to the thread that holds the turn, and only that thread touches it. A thread that
+//!   leaves or finishes a turn doesn't wait for any turn.
 //! - In `messages_queue` and `task_pool` the lock is over the list of waiting items and the counts kept with it. A
-//! value or a job belongs to the thread that took it out. - In `roster` the lock is over the number and the book of
-//! shares. - Apart from the locks themselves, a thread waits only on a condition that belongs to the value, and that
-//! wait releases the lock. If memory for a condition is refused, the thread releases the lock and tries again.
+//!   value or a job belongs to the thread that took it out.
+//! - In `roster` the lock is over the number and the book of shares.
+//! - Apart from the locks themselves, a thread waits only on a condition that belongs to the value, and that wait
+//!   releases the lock. If memory for a condition is refused, the thread releases the lock and tries again.
 #![tactic(auto)]
 
 pub mod held_reader;

@@ -18,7 +18,8 @@ use tiny_http_io::device::WriteDevice;
 use tiny_http_io::outlet::Outlet;
 use tiny_http_turns::passing::{HeldTurn, pass_on};
 
-/// A builder of readers over one inner reader. Each reader has its turn when all readers created before it are dropped.
+/// A builder of readers over one inner reader. Each reader has its turn once all readers created before it have been
+/// dropped.
 #[derive(Drop)]
 pub struct SequentialReaderBuilder<I, R: Wait> {
     rt: R,
@@ -62,8 +63,8 @@ impl<I: Read + Drop, R: Wait + Copy> SequentialReaderBuilder<I, R> {
     }
 }
 
-/// A reader that reads in its turn: its first read waits until all readers created before it are dropped. Dropping it
-/// finishes its turn, or skips the turn if it hasn't come, without waiting for any turn.
+/// A reader that reads in its turn: its first read waits until all readers created before it have been dropped.
+/// Dropping it finishes its turn, or skips the turn if it hasn't come, without waiting for any turn.
 pub struct SequentialReader<I: Read + Drop, R: Wait + Drop> {
     turn: Turn<I, R>,
 }
@@ -96,7 +97,8 @@ impl<I: Read + Drop, R: Wait + Drop> Drop for SequentialReader<I, R> {
     }
 }
 
-/// A builder of writers over one inner writer. Each writer has its turn when all writers created before it are dropped.
+/// A builder of writers over one inner writer. Each writer has its turn once all writers created before it have
+/// finished theirs.
 #[derive(Drop)]
 pub struct SequentialWriterBuilder<W, R: Wait> {
     rt: R,
@@ -121,8 +123,8 @@ impl<W: Write + Drop, R: Wait + Copy> SequentialWriterBuilder<W, R> {
         Ok(SequentialWriter { turn, failures: 0 })
     }
 
-    /// Creates the next writer, or returns `None` once the queue was closed: by `close_queue` or `close` of a writer,
-    /// or because the output broke (`close_when_broken`). Fails as `next` does.
+    /// Creates the next writer, or returns `None` once the queue has been closed: by `close_queue` or `close` of a
+    /// writer, or because the output broke (`close_when_broken`). Fails as `next` does.
     #[doc(hidden)]
     pub fn next_unless_closed(&mut self) -> Result<Option<SequentialWriter<W, R>>, AllocError> {
         let turn = Turn::new_unless_closed(self.rt, self.alloc, &self.queue)?;
@@ -245,9 +247,9 @@ fn end_if_last<W: WriteDevice + Drop, R: Wait + Drop>(held: &mut Held<W, R>) {
     }
 }
 
-/// A writer that writes in its turn: its first write or flush waits until all writers created before it are dropped.
-/// Dropping it flushes and finishes its turn, or skips the turn if it hasn't come, without waiting for any turn. As a
-/// `WriteDevice` it counts the failures of its own `write_out` and `flush_out`, and states no bytes.
+/// A writer that writes in its turn: its first write or flush waits until all writers created before it have finished
+/// their turns. Dropping it flushes and finishes its turn, or skips the turn if it hasn't come, without waiting for any
+/// turn. As a `WriteDevice` it counts the failures of its own `write_out` and `flush_out`, and states no bytes.
 pub struct SequentialWriter<W: Write + Drop, R: Wait + Drop> {
     turn: Turn<W, R>,
     failures: u64,

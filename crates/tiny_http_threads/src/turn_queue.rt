@@ -303,7 +303,7 @@ impl<T: Drop> TurnQueue<T> {
         Ok((number, state.is_first(number)))
     }
 
-    /// Issues the next number as `issue` does, or returns `None` once the queue was closed.
+    /// Issues the next number as `issue` does, or returns `None` once the queue has been closed.
     pub fn issue_unless_closed<R: Wait>(&self, rt: &R) -> Result<Option<(u64, bool)>, AllocError> {
         let mut state = self.state.lock(rt);
         if self.is_closed() {
@@ -440,8 +440,8 @@ impl<T: Drop, R: Wait + Drop> Turn<T, R> {
         })
     }
 
-    /// Issues the next number of this queue, or returns `None` once the queue was closed. Fails if memory is refused,
-    /// or no number is left.
+    /// Issues the next number of this queue, or returns `None` once the queue has been closed. Fails if memory is
+    /// refused, or no number is left.
     pub fn new_unless_closed(
         rt: R,
         alloc: Global,

@@ -88,7 +88,8 @@ fn an_answer_with_headers_of_texts(rt: HostRuntime) -> Result<(), Fail> {
     Ok(())
 }
 
-// Asserts that the response made from a status code has this text.
+// Asserts that the response made from a status code has this code, `text` as its data, and a single header, which is
+// the Content-Type of plain text.
 fn assert_status(rt: &impl Abort, alloc: Global, code: u16, text: &str) -> Result<(), Fail> {
     let answer = Response::status(alloc, StatusCode(code))?;
     assert_answer(rt, &answer, code, text.len(), 1);
@@ -118,7 +119,7 @@ fn an_answer_of_data(rt: HostRuntime) -> Result<(), Fail> {
     Ok(())
 }
 
-// Asserts the text of a response that is printed to this request.
+// Asserts that a response to this request is printed without an error, and that the printed text is `wanted`.
 fn assert_asked(
     rt: &impl Abort,
     alloc: Global,
@@ -139,8 +140,8 @@ const NOT_MODIFIED: &str =
 const NO_CONTENT: &str =
     "HTTP/1.0 204 No Content\r\nServer: tiny-http (Rust)\r\nDate: Wed, 04 May 1983 11:17:00 GMT\r\n\r\n";
 
-// Responses without content have neither a content length nor a transfer coding (RFC 9110, section 8.6; RFC 9112,
-// section 6.1).
+// The 304 and 204 responses that `contentless` makes have neither a content length nor a transfer coding (RFC 9110,
+// section 8.6; RFC 9112, section 6.1).
 #[test]
 fn answers_without_content(rt: HostRuntime) -> Result<(), Fail> {
     let alloc = rt.alloc();
