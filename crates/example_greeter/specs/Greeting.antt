@@ -51,13 +51,14 @@ abbrev pub last_reply : Option Reply → List ReplyValue
 last_reply None = []
 last_reply (Some r) = seen r ∷ []
 
--- Whether the Ask after the greetings hands out no request. There is no such Ask only after 2^64 - 1 greetings.
+-- Whether the Ask after the greetings hands out no request. That Ask is absent only if there were 2^64 - 1 greetings.
 abbrev pub EndsGreetings : List Greeting → Option Reply → Type 0
 EndsGreetings greetings None = length greetings ≡ 2 ^ 64 - 1
 EndsGreetings greetings (Some r) = is_handed (seen r) ≡ false
 
--- Whether some greetings, each with the status for its request's target, then an Ask with this reply, are a
--- conversation with this client. Its output is what the writer took and what is held.
+-- Whether some sequence of greetings, each with the status for its request's target, followed by an Ask with this
+-- reply, forms a conversation with this client. The conversation's output is what the writer took, followed by what is
+-- held.
 pub record Greets (client : Feed) (before : Sink) (now : HttpDate) (after : Sink) (held : List ℕ) (ended : Bool)
     (unread : Option Feed) (last : Option Reply) : Type 0 where
   pub greetings : List Greeting

@@ -55,7 +55,7 @@ pub enum Subject {
     Outlet,
     /// A `CustomStream`.
     CustomStream,
-    /// `Turns` over the item 7.
+    /// A `Turns` that holds the item 7.
     Turns,
     /// A source, an outlet, and the requests that are read from the source under this profile, each an `Exchange`.
     Exchange(Profile),
@@ -145,7 +145,7 @@ pub struct Input {
     pub headers: Vec<Header>,
     /// The stated length of a response's data, if any.
     pub length: Option<usize>,
-    /// The length of data from which a response is sent in chunks, if it is not the default.
+    /// The data length at or above which a response is sent in chunks, if it is not the default.
     pub threshold: Option<usize>,
     /// The version of a request, if it is not 1.1.
     pub version: Option<HTTPVersion>,

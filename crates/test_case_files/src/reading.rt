@@ -259,8 +259,8 @@ fn read_line(alloc: Global, cases: &mut Vec<Case>, line: &[u8]) -> Result<(), Li
     }
 }
 
-/// Reads the cases of a file from its bytes. Fails at the first invalid line, if there is no case, or if `lack_of`
-/// finds a lack in the last one.
+/// Reads the cases of a file from its bytes. Fails at the first invalid line, if the file has no case, or if the last
+/// case is incomplete or inconsistent (see `lack_of`).
 pub fn read_cases<'a>(
     alloc: Global,
     name: &'a str,

@@ -31,8 +31,8 @@ fn handed_of<'a>(alloc: Global, case: &'a Case) -> Result<Vec<&'a [u8]>, AllocEr
     Ok(handed)
 }
 
-// Returns the difference at the first request in `found` that is not the one at the same position in `wanted`. A
-// request that is missing in `found` isn't a difference.
+// Returns the difference at the first request in `found` that is not the one at the same position in `wanted`. Requests
+// missing from the end of `found` don't count as a difference.
 fn handed_differ(
     alloc: Global,
     found: &[&[u8]],
@@ -206,9 +206,10 @@ fn without_close(alloc: Global, case: &Case, output: &[u8]) -> Result<Option<Vec
     Ok(Some(front))
 }
 
-/// Returns the first difference of a trial from its case, if the client's bytes were cut short by an end of input or,
-/// if `stop` is set, by a reader error. The requests must be the first ones of the case, and what their bodies return
-/// must be a prefix of what they return in the case. The first reply that differs must belong to an `ask` or a `read`.
+/// Returns the first difference between a trial and its case, for a trial in which the client's bytes were cut short by
+/// the end of input or, if `stop` is set, by a reader error. The requests must be the first ones of the case, and the
+/// bytes read from each body must be a prefix of those read from it in the case. The first reply that differs must
+/// belong to an `ask` or a `read`.
 ///
 /// The output must be a prefix of the case's and, unless the case upgrades a request or takes its raw writer, consist
 /// of complete responses. After a timeout, a 408 may follow it. Under `Standard`, its last `Connection: close` may be

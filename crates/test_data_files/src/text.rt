@@ -28,7 +28,7 @@ const EMPTY: &str =
 const PLAIN: &str =
     "Server: tiny-http (Rust)\r\nDate: Wed, 04 May 1983 11:17:00 GMT\r\nContent-Type: text/plain; charset=UTF-8\r\n";
 
-// Returns what a letter after a backslash represents, or `None` if it begins no such escape.
+// Returns the text that a backslash followed by this letter represents, or `None` if this is not a one-letter escape.
 fn meaning(letter: u8) -> Option<&'static str> {
     match letter {
         b'r' => Some("\r"),
@@ -135,9 +135,9 @@ fn add_repeated<'a>(
     Ok(behind)
 }
 
-/// Adds the bytes that a text represents: each byte itself, `\r`, `\n`, `\t`, `\\`, `\xHH`, the abbreviations `\S`,
-/// `\Z` and `\T`, and `\{N TEXT}`, which repeats a text N times. A repeated text may contain neither another repetition
-/// nor `}`. After an error some bytes may have been added.
+/// Appends to `to` the bytes that a text represents. Each byte represents itself, except in an escape: `\r`, `\n`,
+/// `\t`, `\\`, `\xHH`, an abbreviation (`\S`, `\Z` or `\T`), or `\{N TEXT}`, which repeats TEXT N times. TEXT may
+/// contain neither another repetition nor `}`. If this fails, some bytes may already have been appended.
 pub fn add_text(alloc: Global, text: &str, to: &mut Vec<u8>) -> Result<(), TextFault> {
     let mut rest = text.as_bytes();
     for _ in 0..text.len() {

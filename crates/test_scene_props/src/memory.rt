@@ -101,7 +101,8 @@ impl<R: Wait + Copy> Memory<R> {
         Ok(())
     }
 
-    // Expects `wanted` as the next bytes written, with each Date field line replaced as `dated` does.
+    // Checks that the next bytes written equal `wanted`, after `dated` has replaced each Date field line in the written
+    // bytes.
     fn gets(&mut self, alloc: Global, wanted: &[u8]) -> Result<(), Mishap> {
         let written = self.written.bytes()?;
         let rest = written.get(self.seen..).unwrap_or_default();

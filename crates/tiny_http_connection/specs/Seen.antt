@@ -93,12 +93,13 @@ abbrev pub reply_to : {T : Type 0} → Result T Error → ReplyValue
 reply_to (Ok x) = Done
 reply_to (Err e) = fault_reply (error_kind e)
 
--- the reply to a write or a flush under a raw writer or a stream, which returned this result
+-- the reply to a write or flush that returned this result, made through a raw writer or an upgraded stream
 abbrev pub write_reply : {T : Type 0} → Result T Error → ReplyValue
 write_reply (Ok x) = Done
 write_reply (Err e) = Fault (error_kind e)
 
--- whether the reply says that the step was done, without a fault or up to one that is reported
+-- whether the reply says that the step was carried out, either completely (Done) or until the fault that the reply
+-- reports
 abbrev pub IsAnswered : ReplyValue → Type 0
 IsAnswered Done = Unit {0}
 IsAnswered (Fault kind) = Unit {0}

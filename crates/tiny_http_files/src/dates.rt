@@ -8,8 +8,8 @@ use httpdate::HttpDate;
 /// Returns whether a client's copy is current: `since`, the value of `If-Modified-Since`, is a date, and the file was
 /// modified no later than that date.
 ///
-/// The response should then be a 304 without content (`Response::contentless`). Without a value, or with one that isn't
-/// a date, it returns false (RFC 9110, section 13.1.3). The caller must ignore the field if the request has
+/// The response should then be a 304 without content (`Response::contentless`). Returns false if there is no value, or
+/// if the value isn't a date (RFC 9110, section 13.1.3). The caller must ignore `If-Modified-Since` if the request has
 /// `If-None-Match`, or a method other than `GET` and `HEAD`.
 pub fn is_not_modified(since: Option<&str>, modified: HttpDate) -> bool
     ensures { result ≡ is_not_modified (option_copied since.entry) modified }

@@ -66,7 +66,7 @@ abbrev pub with_last_refusal : Option ℕ → Counts → Counts
 with_last_refusal None c = c
 with_last_refusal (Some status) c = record c { refusals = with_refusal status c.refusals }
 
--- the counters after a connection that this limit closed, if one did
+-- the counters after the end of a connection: the limit that closed it, if any, is counted
 abbrev pub with_any_closing : Option Closing → Counts → Counts
 with_any_closing None c = c
 with_any_closing (Some closing) c = with_closing closing c

@@ -61,7 +61,7 @@ pub struct Counts {
     pub refusals: Refusals,
     /// Failed attempts to accept a connection, after which the server continued.
     pub accept_faults: u64,
-    /// Connections that were closed at once because the limit of their address was reached.
+    /// Connections that were closed at once because their client address had reached its connection limit.
     pub turned_away: u64,
     /// Connections closed because no byte of a head came in time, or an upgraded stream was silent for too long.
     pub idle: u64,
@@ -139,7 +139,7 @@ impl Counts {
         self.accept_faults = one_more(self.accept_faults);
     }
 
-    /// Counts a connection that was closed at once because the limit of its address was reached.
+    /// Counts a connection that was closed at once because its client address had reached its connection limit.
     pub fn count_turned_away(&mut self)
         ensures { self.new ≡ record self.old { turned_away = one_more self.old.turned_away } }
     {

@@ -32,7 +32,7 @@ abbrev pub Found : Type 0
 Found = Option (Result NextRequest AllocError)
 
 -- what is found after a refused head whose response was put in the place for refusals: the end if the head was the
--- last, otherwise the next head
+-- last, otherwise `None`, since another head follows
 abbrev pub after_refused : StatusCode → Bool → Found
 after_refused status true = Some (Ok (next.Ended (because.Refused status)))
 after_refused status false = None
@@ -47,11 +47,12 @@ FollowsRefusal status last false found = (e : AllocError) × (found ≡ Some (Er
 abbrev pub next_of : Exchange → NextRequest
 next_of x = next.Request x.head x.open_request
 
--- whether place and output are unchanged
+-- whether the place and the output are unchanged
 abbrev pub Stays : {R P O : Type 0} → At R P O → At R P O → Type 0
 Stays here there = (there.place ≡ here.place) × (there.output ≡ here.output)
 
--- Whether this is found after a head is read with this result. Place and output change only if the head is refused.
+-- Whether `found` is what is found once reading a head has had this result. The place and the output change only if the
+-- head is refused.
 abbrev pub Follows : {R P O : Type 0} → Refuses P O → Result HeadRead AllocError → At R P O → Found → At R P O → Type 0
 Follows refuses (Ok (read.Request x)) here found there = (found ≡ Some (Ok (next_of x))) × Stays here there
 Follows refuses (Ok (read.Ended why)) here found there = (found ≡ Some (Ok (next.Ended why))) × Stays here there

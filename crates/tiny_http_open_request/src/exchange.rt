@@ -56,7 +56,7 @@ pub enum EndOfRequests {
     /// it. Under `Standard` the connection also ends after a `CONNECT` request, after a request that was finished while
     /// its 100 was owed or more than 65,536 bytes of a body with a `Content-Length` were unread, and after a request
     /// for an upgrade if it was upgraded, or answered through its raw writer. Under any profile it also ends after a
-    /// response with `Response::with_close`.
+    /// response made with `Response::with_close`, if the caller acts on it.
     LastRequest,
     /// The input ended before any byte of a further head. This includes an end within a body of known length (under
     /// `Standard` that is `BrokenBody` if the body was read up to the cut), and an end or a fault within the rest of
@@ -151,12 +151,13 @@ impl Exchange {
     /// respond to each request exactly once, in order, and then discard the body. Under `Standard` the response says
     /// that the connection closes if the request is the last according to its head, its 100 is owed, more than 65,536
     /// bytes of a body with a `Content-Length` are unread, or the end of its body isn't known; the caller must then
-    /// read no further head. A body discarded before this call counts as read. `Response::with_close` is ignored.
+    /// read no further head. A body discarded before this call counts as read.
+    /// `Response::with_close` has no effect here.
     ///
     /// On an outlet that has ended this sends nothing, doesn't read the data, and returns `Ok`. Fails with the first
-    /// fault of the data or of the writer (if both fail, with either), or with `OutOfMemory` if memory for data of
-    /// unknown length is refused. After a failure the outlet has ended; unless the writer failed, the bytes that were
-    /// held are sent.
+    /// fault of the data or the first fault of the writer (if both fail, it is unspecified which is returned), or with
+    /// `OutOfMemory` if memory for data of unknown length is refused. After a failure the outlet has ended; unless the
+    /// writer failed, the bytes that were held are sent.
     pub fn respond_on<W: WriteDevice, D: ReadDevice + Drop>(
         &mut self,
         alloc: Global,

@@ -1,4 +1,5 @@
--- The parts of sockets and of their addresses that contracts refer to: their kind.
+-- What contracts state about sockets and their addresses: the kind (TCP or Unix), the copy of a configured address, and
+-- the text of an address.
 use Rattle.std.specs.Prelude.{◌≡◌, ℕ, List, Option, Some, None, ⊤}
 use Rattle.std.specs.declared.net.socket_addr.SocketAddr.{SocketAddr}
 use Rattle.std.specs.declared.net.unix.addr.SocketAddr.{SocketAddr as UnixAddr}

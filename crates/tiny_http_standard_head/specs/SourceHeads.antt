@@ -123,8 +123,8 @@ ReadsField limit left (Some f) new (Err (Unfinished has_begun)) = IsShort limit 
 ReadsField limit left (Some f) new (Err Memory) = ⊤
 ReadsField limit left (Some f) new (Err _) = ⊥
 
--- whether memory was needed for the first line: the line is valid; or it isn't whole in the buffer, since bytes of it
--- were taken, or the buffered bytes within the limit have no LF
+-- whether memory was needed for the first line: either the line is valid, or it isn't entirely in the buffer, because
+-- some of its bytes were already taken from the source or because the buffered bytes within the limit contain no LF
 abbrev pub LacksMemory : (List ℕ → Type 0) → ℕ → Feed → Option Feed → List ℕ → Type 0
 LacksMemory IsBad limit f new held =
     ((text : List ℕ) × (rest : List ℕ) × Line (take limit f.bytes) text rest × (IsBad text → ⊥))
@@ -197,13 +197,14 @@ abbrev pub LeavesBehind : Feed → Option Feed → StandardRead → Type 0
 LeavesBehind f new (read.Whole h) = new ≡ feed_from f (drop h.length f.bytes)
 LeavesBehind f new _ = ⊤
 
--- A HEAD OF A SOURCE: whether it is read with the result of reading all bytes still to come, and the input continues
--- directly after it if it is complete
+-- A HEAD OF A SOURCE: whether `r` is the result of reading a head from the bytes still to come and, if the head is
+-- complete, the input continues directly after it
 abbrev pub ReadsFrom : ℕ → Option Feed → Option Feed → StandardRead → Type 0
 ReadsFrom limit None new r = ⊤
 ReadsFrom limit (Some f) new r = Reads limit f.bytes r × LeavesBehind f new r
 
--- whether a complete head was validated with this summary, whatever the source states
+-- whether the head, if a complete one was read, passed validation and has the summary that validation gives; unlike
+-- ReadsFrom, this doesn't depend on the source's feed
 abbrev pub IsValidated : StandardRead → Type 0
 IsValidated (read.Whole h) = Validates h.version h.method h.headers.items (Ok h.summary)
 IsValidated _ = ⊤
