@@ -166,7 +166,7 @@ fn answer_by_four<R: ServerRuntime + DataFiles + Sync>(
 }
 
 /// Listens on the address, prints it, and serves with `recv` or `serve`, as `how` says. For any other word it fails
-/// with `Usage` after it has printed the address.
+/// with `Usage`, and doesn't listen.
 pub fn serve_bodies<R: ServerRuntime + DataFiles + Sync, O: Write>(
     rt: R,
     alloc: Global,
@@ -175,13 +175,18 @@ pub fn serve_bodies<R: ServerRuntime + DataFiles + Sync, O: Write>(
     data: Data,
     out: &mut O,
 ) -> Result<(), BenchFault> {
+    let receives = match how {
+        "recv" => true,
+        "serve" => false,
+        _ => return Err(BenchFault::Usage),
+    };
     let server = Server::http(rt, alloc, address)?;
     let _ = writeln!(out, "listening on {}", server.server_addr());
     let _ = out.flush();
-    match how {
-        "recv" => answer_by_four(&rt, alloc, &server, &data),
-        "serve" => server.serve(alloc, &Arc::new(alloc, data).map_err(|_| AllocError)?)?,
-        _ => return Err(BenchFault::Usage),
+    if receives {
+        answer_by_four(&rt, alloc, &server, &data);
+    } else {
+        server.serve(alloc, &Arc::new(alloc, data).map_err(|_| AllocError)?)?;
     }
     Ok(())
 }
