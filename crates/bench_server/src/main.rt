@@ -40,7 +40,7 @@ const STOP_SECS: u64 = 10;
 // reads it.
 const PRINT_TENTHS: u32 = 30;
 
-/// Why the program can't serve, or stopped serving.
+/// The reason why the program can't serve, or stopped serving.
 #[derive(Debug, Drop, Error)]
 pub enum BenchFault {
     /// The arguments don't match the usage.
@@ -171,7 +171,8 @@ struct Progress {
     has_printed: AtomicBool,
 }
 
-// Prints where the server listens, then its counts once a minute, and once more when serving has ended.
+// Prints the address at which the server listens, then the server's counts once a minute, and once more when serving
+// has ended.
 fn report_progress<R: ServerRuntime, O: Write>(
     rt: &R,
     server: &Server<R>,
@@ -264,9 +265,9 @@ fn report<E: Write>(fault: &BenchFault, err: &mut E) -> u8 {
 }
 
 /// Listens on the address in the arguments, and answers every request with `hello world` until a line `stop` arrives on
-/// `input`. Another thread prints on `out` where the server listens, and its counts. Returns the exit status: 0; 2 if
-/// the arguments aren't `[--lenient|--strict|--standard] ADDRESS`; 1 if the server can't listen, serving fails, memory
-/// is refused, or a thread can't be started. A line on `err` reports the error.
+/// `input`. Another thread prints the server's address and counts on `out`. Returns the exit status: 0; 2 if the
+/// arguments aren't `[--lenient|--strict|--standard] ADDRESS`; 1 if the server can't listen, serving fails, memory is
+/// refused, or a thread can't be started. A line on `err` reports the error.
 pub fn serve_hello<R, I, O, E: Write>(
     rt: R,
     alloc: Global,

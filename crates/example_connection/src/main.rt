@@ -12,7 +12,7 @@ use tiny_http_wire::common::{Method, StatusCode};
 use tiny_http_wire::device::{Metered, ReadDevice, WriteDevice};
 use tiny_http_wire::response::Response;
 
-// Number of bytes that one read asks for.
+// The number of bytes that one read asks for.
 const PIECE: u16 = 1024;
 
 // Maximum number of reads for a body: two that return bytes, and one that finds the end. So a body has at most 2048

@@ -1,11 +1,11 @@
-//! What serving a folder needs from the system, as a separate trait: code that is generic over `Files` can't be shared
-//! by threads.
+//! The calls to the system that serving a folder needs, as a separate trait, since code that is generic over `Files`
+//! can't be shared by threads.
 use std::alloc::{AllocGlobal, Global};
 use std::fs::{File, Files, OpenFile};
 use std::time::SystemTime;
 use std::{fs, io};
 
-/// The kind of what a path names.
+/// The kind of an entry in the file system.
 #[derive(Clone, Copy, Debug, PartialEq, Eq)]
 pub(crate) enum Kind {
     File,
@@ -17,7 +17,7 @@ pub(crate) trait Disk {
     /// Opens a file, and returns it with its modification time.
     fn open_file(&self, path: &str) -> io::Result<(File, SystemTime)>;
 
-    /// Returns the kind of what a path names. Fails if nothing has this path.
+    /// Returns the kind of the entry with this path. Fails if there is no such entry.
     fn kind_of(&self, path: &str) -> io::Result<Kind>;
 
     /// Returns the canonical path, with links resolved, or `None` if it isn't UTF-8.

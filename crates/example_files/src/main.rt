@@ -1,10 +1,10 @@
 //! Serves the files of a folder: `example_files ADDRESS FOLDER`.
 //!
 //! It accepts `GET` and `HEAD`. A request for a folder is answered with its `index.html` or a list of its entries, or,
-//! if the path has no slash at its end, with a redirect to the path with one. A request for what can't be read, is
-//! outside the folder, or is neither a file nor a folder, is answered with 404. A file that shrinks while it is sent
-//! ends its connection, since its length has already been sent. If memory is refused, the answer is a 404, or the empty
-//! 500 of a dropped request.
+//! if the path has no slash at its end, with a redirect to the path with one. A request for something that can't be
+//! read, is outside the folder, or is neither a file nor a folder is answered with 404. A file that shrinks while it is
+//! sent ends its connection, since its length has already been sent. If memory is refused, the response is a 404, or
+//! the empty 500 of a dropped request.
 //!
 //! The program shows a path that stays within the folder (`below_folder`), a file of any length that isn't sent in
 //! chunks (`with_chunked_threshold`), a 304 without content (`contentless`), and headers added by `with`.
@@ -94,8 +94,8 @@ fn send_list<R: ReadDevice + Drop, W: WriteDevice + Drop, Rt: Disk + Clock + Wai
 }
 
 impl Folder {
-    // Returns the canonical path of what a request's path names, or `None` if the path can't be resolved, or leads out
-    // of the folder.
+    // Returns the canonical path of the file or folder that a request's path names, or `None` if the path can't be
+    // resolved or leads out of the folder.
     fn find<Rt: Disk>(&self, rt: &Rt, alloc: Global, path: &str) -> io::Result<Option<String>> {
         let Ok(decoded) = percent_decode_str(path).decode_utf8(alloc) else {
             return Ok(None);

@@ -109,7 +109,7 @@ pub(crate) fn head_of<R: ReadDevice + Drop, W: WriteDevice + Drop, Rt: Wait + Dr
     Ok(head)
 }
 
-/// How the body of a backend's response ends (RFC 9112, section 6.3).
+/// The way in which the body of a backend's response ends (RFC 9112, section 6.3).
 #[derive(Clone, Copy, PartialEq, Eq)]
 pub(crate) enum Ending {
     Length(usize),

@@ -68,7 +68,7 @@ pub record Greets (client : Feed) (before : Sink) (now : HttpDate) (after : Sink
       (steps_of now greetings ++ map (λ _. (now, Ask)) (last_reply last)) (replies_of greetings ++ last_reply last)
       after held ended unread
 
--- what a writer that took nothing states
+-- the sink of a writer that has taken nothing
 abbrev pub nothing_taken : Sink
 nothing_taken = record { taken = Some []; sent = []; failures = 0; last_kind = None; has_ended = false }
 

@@ -14,7 +14,7 @@ const MOST_NOTES: usize = 1000;
 /// A response of this program, whose data are bytes in memory.
 pub(crate) type Answer = Response<Cursor<Vec<u8>>>;
 
-/// What a path names: all notes, or one note.
+/// The resource that a path names: all notes, or one note.
 #[derive(Clone, Copy, Debug, PartialEq, Eq)]
 enum Route {
     Notes,

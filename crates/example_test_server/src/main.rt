@@ -6,8 +6,8 @@
 //! 501, and a request whose body can't be read, or is longer than 2^20 bytes, with 413. `GET /unused` lists the names
 //! of responses that have not been sent yet. All requests are read under `Standard`.
 //!
-//! The program shows requests read from bytes (`ClientConnection`), raw responses (`into_writer`), and a response whose
-//! end is that of its connection (`close`), since it has no length or `read_answer` can't read it whole.
+//! The program shows requests read from bytes (`ClientConnection`), raw responses (`into_writer`), and a response that
+//! ends with its connection (`close`), since the response has no length or `read_answer` can't read it whole.
 #![tactic(auto)]
 
 use std::alloc::{AllocGlobal, Global};
@@ -131,7 +131,7 @@ impl Recorded {
         Ok(None)
     }
 
-    // Returns the names of the exchanges whose responses have not been sent, one a line.
+    // Returns the names of the exchanges whose responses have not been sent, one per line.
     fn unused<Rt: Wait>(&self, rt: &Rt, alloc: Global) -> io::Result<String> {
         let mut text = String::new(alloc);
         for exchange in self.exchanges.lock(rt).as_slice() {
@@ -163,7 +163,7 @@ impl<R: ReadDevice + Drop, W: WriteDevice + Drop, Rt: Clock + Wait + Drop> Handl
             let is_whole = matches!(read, Ok(Some((_, length))) if length == answer.len());
             let mut writer = request.into_writer();
             writer.write_all(answer.as_slice())?;
-            // A response that isn't whole by itself ends with its connection.
+            // A response that isn't whole on its own ends with its connection.
             return if is_whole {
                 writer.flush()
             } else {

@@ -1,4 +1,4 @@
-//! Sends each WebSocket message back: `example_websocket_echo ADDRESS`. A handshake above the limit of upgraded
+//! Sends each WebSocket message back: `example_websocket_echo ADDRESS`. A handshake above the limit on upgraded
 //! connections is answered with 503, and any other request that isn't accepted with 426.
 //!
 //! The program shows an upgrade with `tiny_http_websocket`, frames with `tungstenite`, and `serve`, which gives each
@@ -46,7 +46,8 @@ fn send_back<S: Read + Write + Drop>(socket: &mut WebSocket<S, NoMask>) -> Resul
     Ok(())
 }
 
-// Sends each message back. If it ends with an error of the client (`close_code`), the client gets a Close frame.
+// Sends each message back. If an error of the client (`close_code`) ends the conversation, the client gets a Close
+// frame.
 fn talk<S: Read + Write + Drop>(alloc: Global, stream: S) -> Result<(), Error> {
     let config = WebSocketConfig::default()
         .max_message_size(Some(MOST))

@@ -1,9 +1,9 @@
-//! Why the program can't serve, as one line and an exit status.
+//! The reasons why the program can't serve, each with one line and an exit status.
 ghost use Rattle.std.specs.Prelude.{◌≡◌, ◌<◌, ◌≤◌};
 
 use std::fmt;
 
-/// Why the program can't serve.
+/// The reason why the program can't serve.
 #[derive(Clone, Copy, Debug, PartialEq, Eq)]
 pub(crate) enum HelloFault<'a> {
     Usage,

@@ -69,7 +69,7 @@ fn report<E: Write>(fault: &HelloFault<'_>, err: &mut E) -> u8
 
 /// Listens on the address in the only argument, prints it on `out`, and answers every request with `hello world` until
 /// serving ends. Returns the exit status: 0, even if serving ended with an error; 2 if there isn't exactly one
-/// argument; 1 if it can't listen on the address. A line on `err` reports an error whose status isn't 0.
+/// argument; 1 if the program can't listen on the address. A line on `err` reports the error if the status isn't 0.
 pub fn hello_on<R: Host, O: Write, E: Write>(
     rt: R,
     alloc: Global,

@@ -1,4 +1,4 @@
--- The replies and the output of a replay of a script, and what is written of them.
+-- The replies and the output of a replay of a script, and the bytes that are written for them.
 use Rattle.std.specs.Prelude.{◌≡◌, ℕ, Bool, Option, Some, List, ◌++◌}
 use Rattle.std.specs.List.{flat_map}
 use Rattle.std.specs.Io.KnownBytes.{Appends}
@@ -10,7 +10,8 @@ use Rattle.replay_script.specs.Reply.{reply_line}
 use Rattle.replay_script.specs.Script.{IsScript}
 
 -- A run of `steps` under profile `p`, over a client that sends the bytes `client` and ends: `replies` are the replies
--- to the steps, no call to the writer fails, and `output` is what the writer took, followed by what is still held.
+-- to the steps, no call to the writer fails, and `output` holds the bytes that the writer took, followed by those still
+-- held.
 pub record HasRun (p : Profile) (client : List ℕ) (steps : List TimedValue) (replies : List ReplyValue)
     (output : List ℕ) : Type 0 where
   pub before : Sink
@@ -30,7 +31,7 @@ abbrev pub IsReplay : Profile → List ℕ → List ℕ → List ReplyValue → 
 IsReplay p client script replies output =
     (steps : List TimedValue) × IsScript script steps × HasRun p client steps replies output
 
--- What a replay of `script`, over the bytes `client` under profile `p`, writes to two writers: the known bytes of the
+-- The effect on two writers of a replay of `script`, over the bytes `client` under profile `p`: the known bytes of the
 -- first grow by the output, and those of the second by a line for each reply.
 pub record WritesReplay (p : Profile) (client script : List ℕ)
     (out_old out_new err_old err_new : Option (List ℕ)) : Type 0 where

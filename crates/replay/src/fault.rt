@@ -1,9 +1,9 @@
-//! Why a script can't be run, or its result can't be written, as one line and an exit status.
+//! The errors of a replay, each reported as one line and an exit status.
 ghost use Rattle.std.specs.Prelude.{◌≡◌, ◌<◌, ◌≤◌};
 
 use std::fmt;
 
-/// Why a script can't be run, or its result can't be written.
+/// The reason why a script can't be run, or its result can't be written.
 #[derive(Clone, Copy, Debug, PartialEq, Eq)]
 pub(crate) enum ReplayFault<'a> {
     Usage,

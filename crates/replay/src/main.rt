@@ -222,7 +222,8 @@ fn words<R: Env + AllocGlobal>(rt: &R) -> Result<Vec<String>, ReplayFault<'stati
     }
 }
 
-// Runs the script that the command line names over the client's bytes that it names, and returns the exit status.
+// Runs the script over the client's bytes, both from the files that the command line names, and returns the exit
+// status.
 fn run_call<R: Env + Files + AllocGlobal, O: Write, E: Write>(
     rt: &R,
     out: &mut O,

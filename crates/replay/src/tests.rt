@@ -1,4 +1,4 @@
-//! Tests of whole scripts: what is written, and the exit status.
+//! Tests of whole scripts: their output, and the exit status.
 use crate::fault::ReplayFault;
 use crate::{call_in, read_call, replay_on, report};
 use replay_script::reply::ReplyLine;
@@ -9,7 +9,7 @@ use std::test::Fail;
 use tiny_http_core::driver::Reply;
 use tiny_http_core::framing::Profile;
 
-/// What a replay wrote, and its exit status.
+/// The output of a replay, and its exit status.
 #[derive(Drop)]
 struct Trial {
     status: u8,

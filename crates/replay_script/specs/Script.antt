@@ -78,7 +78,7 @@ said_step (UpgradeLine number status protocol) = Some (Upgrade number protocol.n
 said_step (FinishLine number) = Some (Finish number)
 said_step (DropLine number) = Some (Drop number)
 
--- the date of the steps after this line: that of a `now` line, else `now`
+-- the date of the steps after this line: that of a `now` line, otherwise `now`
 abbrev pub date_behind : HttpDate → ScriptLine → HttpDate
 date_behind now Blank = now
 date_behind now (Now date) = date
@@ -104,7 +104,8 @@ steps_from now [] = []
 steps_from now (line ∷ lines) =
     on_date (date_behind now line) (said_step line) ++ steps_from (date_behind now line) lines
 
--- whether these are the steps of a script; the date before the first `now` line is second 420,895,020 since 1970
+-- whether these are the steps of a script; the date before the first `now` line is 420,895,020 seconds after the
+-- beginning of 1970
 abbrev pub IsScript : List ℕ → List TimedValue → Type 0
 IsScript script steps =
     (lines : List ScriptLine) × (first : HttpDate)

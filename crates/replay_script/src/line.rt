@@ -19,7 +19,7 @@ pub enum ScriptLine<'a> {
     Ask,
     /// Sends the 100 that is owed to the request of this number.
     AsReader(u64),
-    /// Reads the body of the request of this number, at most this many bytes.
+    /// Reads at most this many bytes of the body of the request of this number, or of the stream of its upgrade.
     Read(u64, u16),
     /// Responds to the request of this number with this status code and content.
     Respond(u64, u16, Content<'a>),
@@ -50,7 +50,7 @@ pub enum Content<'a> {
     Broken(u16),
 }
 
-// Parses a decimal number below 2^64. It refuses a leading plus, which `parse` accepts.
+// Parses a decimal number below 2^64. Refuses a leading plus sign, which `parse` accepts.
 fn number_in(digits: &str) -> Option<u64>
     ensures { SomeIff result (IsNumeral 10 digits.now × (digits_value 10 digits.now < 2 ^ 64))
         (digits_value 10 digits.now) }

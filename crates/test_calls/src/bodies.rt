@@ -34,8 +34,8 @@ fn add_answer(
     add_some(alloc, to, "body", answer.body.as_slice())
 }
 
-// Reads one response, and adds it or why there is none. Returns how many bytes it takes up, if it is complete and
-// valid.
+// Reads one response, and adds the response or the reason why there is none. Returns how many bytes it takes up, if it
+// is complete and valid.
 fn read_one(
     alloc: Global,
     method: &Method,

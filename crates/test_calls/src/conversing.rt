@@ -27,8 +27,8 @@ pub fn step_of(alloc: Global, line: &str) -> Result<Option<Step<ScriptData>>, Al
     }
 }
 
-/// Builds a 200 response that borrows its data. If a length is given, the response is sent in chunks only
-/// if the request's `TE` asks for them.
+/// Builds a 200 response that borrows its data. If a length is given, the response is sent in chunks only if the
+/// request's `TE` asks for them.
 pub fn lent(alloc: Global, data: &mut Watched, length: Option<usize>) -> Response<&mut Watched> {
     let answer = Response::empty(alloc, StatusCode(200)).with_data(data, length);
     match length {
@@ -146,8 +146,8 @@ fn add_parts(
 }
 
 /// Adds the results of the last call, `last`, the number of reads from the client, and what the writer has flushed. If
-/// `is_past`, that is, after the last call of the row, adds instead what is left in the source and the outlet, and what
-/// the writer accepted.
+/// `is_past` holds, that is, after the last call of the row, adds instead what is left in the source and the outlet,
+/// and what the writer accepted.
 pub fn add_outcome(
     alloc: Global,
     last: Result<Vec<Finding>, AllocError>,

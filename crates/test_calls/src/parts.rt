@@ -224,8 +224,8 @@ fn add_deed(alloc: Global, call: &Call, input: &mut Input, part: &str) -> Result
     Ok(())
 }
 
-/// Adds a part to the input of a call. A part that the call does not accept by name is parsed as one of its
-/// successive calls.
+/// Adds a part to the input of a call. A part that the call does not accept by name is parsed as one of its successive
+/// calls.
 pub fn add_part(
     alloc: Global,
     call: &Call,

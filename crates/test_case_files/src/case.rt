@@ -105,6 +105,6 @@ pub struct Case {
     pub steps: Vec<CaseStep>,
     /// The bytes that are sent, and then those still buffered.
     pub output: Vec<u8>,
-    /// Why no further request comes after the steps, if the case states it.
+    /// The reason why no further request comes after the steps, if the case states it.
     pub end: Option<Vec<u8>>,
 }

@@ -17,7 +17,7 @@ pub struct Outcome {
     pub failures: u64,
     /// Number of calls to the writer after the first failure.
     pub later: u64,
-    /// Why no further request comes after the steps, or `None` if this is not known.
+    /// The reason why no further request comes after the steps, or `None` if it is not known.
     pub end: Option<Vec<u8>>,
 }
 

@@ -77,7 +77,7 @@ impl Tally {
     }
 }
 
-// Maximum number of a case's writer calls that are made to fail, each in a run of its own.
+// Maximum number of a case's writer calls that are made to fail, each in a separate run.
 const MOST_CALLS: u64 = 10_000;
 
 // Returns the first difference of a trial's outcome, if any. A reader error is final: if a reader fails once, the

@@ -9,7 +9,7 @@ use tiny_http_core::driver::{Step, Timed};
 use tiny_http_wire::common::{Header, StatusCode};
 use tiny_http_wire::response::Response;
 
-/// Why the steps of a case can't be converted.
+/// An error in converting the steps of a case.
 #[derive(Clone, Copy, Debug, PartialEq, Eq)]
 pub enum StepsFault {
     /// A header line of a response is invalid, or memory was refused for it.

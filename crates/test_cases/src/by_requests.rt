@@ -12,7 +12,7 @@ use test_case_trials::trial::Trial;
 use tiny_http_request::client::ClientConnection;
 use tiny_http_socket::cork::halves;
 
-/// When responses are sent.
+/// Whether responses are sent one by one or together.
 #[derive(Clone, Copy, Debug, PartialEq, Eq)]
 pub(crate) enum Leaving {
     /// One by one, as by a server whose requests are received with `recv`.

@@ -29,7 +29,7 @@ pub(crate) type RawWriter<R> = SequentialWriter<Outlet<Below<R>>, R>;
 /// The stream of an upgraded request.
 pub(crate) type Stream<R> = CustomStream<Body<Input<R>, R>, RawWriter<R>>;
 
-/// What is held under a request's number: the request, or the raw writer or stream that it became.
+/// A value that is held under a request's number: the request, or the raw writer or stream that it became.
 #[derive(Drop)]
 pub(crate) enum Held<R: Wait + Copy> {
     Request(Asked<R>),

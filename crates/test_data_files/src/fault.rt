@@ -3,7 +3,7 @@ use crate::text::TextFault;
 use std::alloc::AllocError;
 use std::fmt;
 
-/// Why a line can't be read.
+/// An error in reading a line.
 #[derive(Clone, Copy, Debug, PartialEq, Eq)]
 pub enum LineFault {
     /// The line is invalid for this reason.
@@ -38,7 +38,7 @@ pub fn line_text(line: &[u8]) -> Result<Option<&str>, LineFault> {
     Ok(Some(str::from_utf8(line).unwrap_or_default()))
 }
 
-/// Why a run over files was aborted.
+/// An error that aborts a run over files.
 #[derive(Clone, Copy, Debug, PartialEq, Eq)]
 pub enum FilesFault<'a> {
     /// The command line names no file, or is not UTF-8.

@@ -12,7 +12,7 @@ pub struct NamedFile<'a> {
     pub bytes: Vec<u8>,
 }
 
-/// How a program checks the files named on its command line.
+/// A check of the files named on a program's command line.
 pub trait Checker {
     /// Checks the files. Must parse all of them before it runs anything in them. Returns whether nothing differs.
     fn check<'a, O: Write>(

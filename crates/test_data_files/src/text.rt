@@ -1,7 +1,7 @@
 //! Reads the texts of data files: escapes, abbreviations, and repeated pieces.
 use std::alloc::{AllocError, Global};
 
-/// Why a text is invalid.
+/// An error in reading a text.
 #[derive(Clone, Copy, Debug, PartialEq, Eq)]
 pub enum TextFault {
     /// A backslash does not begin an escape.

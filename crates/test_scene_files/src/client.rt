@@ -35,7 +35,7 @@ const DATE_LENGTH: usize = 35;
 // The Date field line that replaces all others before texts are compared.
 const DATED: &[u8] = b"Date: Wed, 04 May 1983 11:17:00 GMT";
 
-// How a connection ended.
+// The end of a connection.
 #[derive(Clone, Copy, Debug, PartialEq, Eq)]
 enum End {
     Closed,

@@ -94,7 +94,7 @@ pub enum ServerDeed<'a> {
     File(bool),
     /// Gives the file of the Unix socket a second name: a hard link.
     LinksFile,
-    /// Expects that nobody listens at the server's address. For TCP, waits until the address is free. For a Unix
+    /// Expects that nobody listens on the server's address. For TCP, waits until the address is free. For a Unix
     /// socket, checks once, through the second name of its file.
     IsFree,
     /// Creates a second server at the same address, which replaces the first one, and drops the first.
@@ -108,7 +108,7 @@ pub enum ServerDeed<'a> {
     /// Expects that creating a server with TLS at the same address fails with this error.
     RivalWithTls(ErrorKind),
     /// Creates a server from two addresses, that of the scene's server, which is in use, and one with any free port,
-    /// and expects that the new server does not listen at the first.
+    /// and expects that the new server does not listen on the first.
     AtSecond,
     /// Expects that the server's Unix address is displayed as the path of its socket in quotes, followed by
     /// `(pathname)`.
@@ -145,7 +145,7 @@ pub enum Data<'a> {
     Short(usize, &'a str),
 }
 
-/// Why a request is returned without an upgrade.
+/// The reason why a request is returned without an upgrade.
 #[derive(Clone, Copy)]
 pub enum Kept {
     /// The request does not ask for the protocol.
@@ -471,7 +471,7 @@ fn answer_in(word: &str) -> Option<bool> {
     }
 }
 
-// Parses why a request is returned without an upgrade.
+// Parses the reason why a request is returned without an upgrade.
 fn kept_in(word: &str) -> Option<Kept> {
     match word {
         "NotAsked" => Some(Kept::NotAsked),

@@ -5,7 +5,7 @@ use std::io::ErrorKind;
 use test_data_files::fault::LineFault;
 use test_data_files::text::{TextFault, shown};
 
-/// Why a step failed.
+/// An error of a step.
 #[derive(Drop)]
 pub enum Mishap {
     /// The result differs from the expected one.

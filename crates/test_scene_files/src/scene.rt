@@ -7,7 +7,7 @@ use test_data_files::text::number_in;
 use tiny_http_body::framing::Profile;
 use tiny_http_limits::limits::Limits;
 
-/// What a scene runs on: a kind of server, or what replaces a server.
+/// The kind of server that a scene runs on, or what replaces a server.
 #[derive(Clone, Copy, PartialEq, Eq)]
 pub enum Over {
     Tcp,
@@ -27,7 +27,7 @@ pub enum Over {
     Memory,
 }
 
-/// How `server gives` receives its requests.
+/// The way in which `server gives` receives its requests.
 #[derive(Clone, Copy, PartialEq, Eq)]
 pub enum Way {
     /// With `recv_timeout`.

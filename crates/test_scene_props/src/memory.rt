@@ -20,7 +20,7 @@ use tiny_http_wire::ascii::AsciiString;
 use tiny_http_wire::common::{HTTPVersion, Header, Method, ParseError};
 use tiny_http_wire::device::{Metered, WriteDevice};
 
-/// A writer in memory that accepts a number of bytes, after which every non-empty write fails.
+/// A writer in memory that accepts a number of bytes, after which every nonempty write fails.
 #[derive(Drop)]
 pub struct Bounded<R: Wait + Drop> {
     recorder: Recorder<R>,
@@ -29,7 +29,7 @@ pub struct Bounded<R: Wait + Drop> {
 }
 
 impl<R: Wait + Copy> Bounded<R> {
-    /// Creates a writer to `recorder` that accepts `room` bytes, after which every non-empty write fails with `kind`.
+    /// Creates a writer to `recorder` that accepts `room` bytes, after which every nonempty write fails with `kind`.
     pub fn new(
         recorder: &Recorder<R>,
         (room, kind): (usize, ErrorKind),

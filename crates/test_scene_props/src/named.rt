@@ -1,4 +1,4 @@
-//! Values that the steps of a scene call by name.
+//! Values that the steps of a scene refer to by name.
 use std::alloc::{AllocError, Global};
 use std::mem;
 use test_scene_files::mishap::Mishap;

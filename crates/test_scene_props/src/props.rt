@@ -14,7 +14,7 @@ use tiny_http_threads::messages_queue::MessagesQueue;
 // Initial capacity of a scene's queue.
 const QUEUE_ROOM: usize = 8;
 
-/// What the steps of a scene act on, apart from a server.
+/// The objects that the steps of a scene act on, apart from a server.
 #[derive(Drop)]
 pub struct Props<R: Wait + Drop> {
     pub clients: Vec<Named<Client>>,

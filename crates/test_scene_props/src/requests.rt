@@ -262,9 +262,9 @@ fn demand_property(
     demand(alloc, words, came == wanted)
 }
 
-// Checks one property of a request: a header field, whether a token is listed in its header fields of a name, its path
-// or query, or whether it asks for an upgrade, came over TLS, or would lose its response. Hands any other step to
-// `look_whole`.
+// Checks one property of a request: a header field, whether a token is listed in its header fields with a given name,
+// its path or query, or whether it asks for an upgrade, came over TLS, or would lose its response. Hands any other step
+// to `look_whole`.
 fn look<D: ReadDevice + Drop, W: WriteDevice + Drop, R: Wait + Clock + Drop>(
     alloc: Global,
     request: &Request<D, W, R>,

@@ -16,7 +16,7 @@ use test_scene_props::props::shared;
 use tiny_http::connection::SocketFiles;
 use tiny_http::messages_queue::MessagesQueue;
 
-// Time in milliseconds for which a thread or job is watched to see that it waits.
+// Time in milliseconds for which a thread or job is watched to see whether it waits.
 const WATCHED: u64 = 20;
 
 // The result of a thread: what it still holds of the server and the props, and the step at which it failed, if any.
@@ -26,7 +26,7 @@ pub(crate) struct Done<R: Net + SocketFiles + Wait + Clock + Drop> {
     failure: Option<Failure>,
 }
 
-// What runs the steps: a thread or a pool job.
+// The runner of the steps: a thread or a pool job.
 #[derive(Drop)]
 enum Player<R: Net + SocketFiles + Wait + Clock + Drop> {
     Thread(JoinHandle<Done<R>>),
@@ -148,7 +148,7 @@ fn comes_true<R: Host>(rt: &R, is_so: &AtomicBool, millis: u64) -> bool {
 }
 
 /// Waits until the thread or job called `name` ends, and returns its failure, if any. Fails if there is none of this
-/// name, or if it takes more than `millis` milliseconds.
+/// name, or if the wait takes more than `millis` milliseconds.
 pub(crate) fn end<R: Host>(
     rt: &R,
     alloc: Global,

@@ -12,7 +12,7 @@ use tiny_http::response::Response;
 use tiny_http::server::{ServerRequest, current_date};
 use tiny_http::serving::Handler;
 
-// Maximum number of pauses of a millisecond with which a handler waits at its gate.
+// Maximum number of one-millisecond pauses for which a handler waits at its gate.
 const LONGEST: u32 = 10_000;
 
 // Length of the body of a response to `/long`.
@@ -68,7 +68,7 @@ fn greet<R: Wait + Clock + Drop>(
     stream.flush()
 }
 
-// Waits until the gate is open, with at most `LONGEST` pauses of a millisecond.
+// Waits until the gate is open, for at most `LONGEST` pauses of one millisecond.
 fn wait_at<R: Clock>(rt: &R, gate: &AtomicBool) {
     for _ in 0..LONGEST {
         if gate.load(Ordering::SeqCst) {

@@ -1,4 +1,5 @@
-//! What the steps of a scene or of one of its threads act on, by name: the server, its requests, and the props.
+//! The objects that the steps of a scene or of one of its threads act on, by name: the server, its requests, and the
+//! props.
 use crate::handler::ByPath;
 use std::alloc::{AllocError, Global};
 use std::net::Net;
@@ -16,7 +17,7 @@ use tiny_http::server::{Server, ServerReader, ServerWriter};
 /// The server's requests and their outputs.
 pub(crate) type Served<R> = Asked<ServerReader<R>, ServerWriter<R>, R>;
 
-/// What the steps of a scene or of one of its threads act on.
+/// The objects that the steps of a scene or of one of its threads act on.
 #[derive(Drop)]
 pub(crate) struct Hands<R: Net + SocketFiles + Wait + Clock + Drop> {
     pub server: Option<Arc<Server<R>>>,
@@ -24,7 +25,7 @@ pub(crate) struct Hands<R: Net + SocketFiles + Wait + Clock + Drop> {
     pub handler: Arc<ByPath<R>>,
     pub way: Way,
     pub served: Served<R>,
-    /// What the steps act on apart from the server and its requests.
+    /// The objects apart from the server and its requests.
     pub props: Props<R>,
     /// File descriptors that are held so that the process has few left.
     pub taken: Vec<OwnedFd>,

@@ -23,7 +23,7 @@ impl<R: Files> Links for R {
     }
 }
 
-/// What playing a scene requires of the runtime.
+/// The runtime that playing a scene requires.
 pub(crate) trait Host: server::Host + Links {}
 
 impl<R: server::Host + Links> Host for R {}

@@ -1,4 +1,4 @@
-//! Plays a scene step by step. Some steps run on threads of their own.
+//! Plays a scene step by step. Some steps run on separate threads.
 use crate::besides::{Beside, begin, end, spawn_job, wait};
 use crate::hands::Hands;
 use crate::links::Host;

@@ -201,7 +201,7 @@ fn demand_no_tls<R: Host>(
 }
 
 // Expects that a server created from two addresses, `addr`, which is in use, and one with any free port, does not
-// listen at the first.
+// listen on the first.
 fn demand_second<R: Host>(rt: &R, alloc: Global, addr: &ListenAddr) -> Result<(), Mishap> {
     let ListenAddr::IP(first) = addr else {
         return Err(Mishap::Unplayable("only TCP has two addresses"));

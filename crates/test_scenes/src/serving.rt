@@ -37,14 +37,15 @@ const MOST_DESCRIPTORS: u32 = 1_048_576;
 // Initial capacity of the queue of kept requests.
 const KEPT_ROOM: usize = 8;
 
-/// Where a scene's server listens: a TCP address, or the path of a Unix socket.
+/// The address on which a scene's server listens: a TCP address, or the path of a Unix socket.
 #[derive(Clone, Copy)]
 pub(crate) enum Place<'a> {
     Tcp(&'static str),
     Path(&'a str),
 }
 
-/// Returns where the server of a scene listens: at `path` if it uses a Unix socket, and at any free port otherwise.
+/// Returns the address on which the server of a scene listens: `path` if it uses a Unix socket, and otherwise any free
+/// port of the local host.
 pub(crate) fn place_of(over: Over, path: &str) -> Place<'_> {
     match over {
         Over::Ipv6 => Place::Tcp("[::1]:0"),
@@ -333,8 +334,8 @@ fn link_beside<R: Host>(rt: &R, alloc: Global, addr: &ListenAddr) -> Result<(), 
     }
 }
 
-// Expects that nobody listens at the server's address. For TCP, waits until the address is free, at most `TURNS` checks
-// long. For a Unix socket, checks once, through the second name of its file, and removes that name.
+// Expects that nobody listens on the server's address. For TCP, waits until the address is free, for at most `TURNS`
+// checks. For a Unix socket, checks once, through the second name of its file, and removes that name.
 fn demand_free<R: Host>(rt: &R, alloc: Global, addr: &ListenAddr) -> Result<(), Mishap> {
     let ListenAddr::IP(addr) = addr else {
         let link = path_beside(alloc, addr)?;

@@ -1,4 +1,4 @@
-//! Test of a thread that sends what is buffered while another thread writes.
+//! Test of a thread that sends the buffered bytes while another thread writes.
 use crate::fixture::Host;
 use crate::leaving::{Ends, HalfWriter, ends_of};
 use std::alloc::Global;
@@ -37,7 +37,7 @@ fn write_rounds<R: Host>(rt: &R, mut writer: HalfWriter<R>, barrier: &Barrier) {
     }
 }
 
-// Asserts that the byte arrives once the piece has been written and `send` has returned, and that the piece has arrived
+// Asserts that the byte arrives once the piece has been written and `send` has returned, and that the piece arrives
 // once the writer has been flushed.
 fn assert_round<R: Host>(
     rt: &R,

@@ -32,8 +32,8 @@ fn assert_seconds(rt: &impl Abort, millis: Option<u64>, wanted: u64) {
     assert_same(rt, (millis, found), (millis, wanted));
 }
 
-// Times of a clock in milliseconds since 1970, or `None` if it can't be read, and the date that it gives in seconds
-// since 1970.
+// Times of a clock in milliseconds since 1970, or `None` if the clock can't be read, and the date that `current_date`
+// returns, in seconds since 1970.
 const TIMES: [(Option<u64>, u64); 6] = [
     (Some(0), 0),
     (Some(999), 0),

@@ -87,7 +87,7 @@ fn assert_broken(rt: &impl Abort, written: io::Result<usize>) {
     assert_same(rt, fault.kind(), ErrorKind::BrokenPipe);
 }
 
-// Asserts that a connection over a Unix socket is without TLS and has no peer address, that it can be read after its
+// Asserts that a connection over a Unix socket doesn't use TLS and has no peer address, that it can be read after its
 // writing half is dropped, and that it is closed once both halves are dropped.
 fn assert_halves_close_alone<R: Net + Abort>(rt: &R, alloc: Global) {
     let (ours, mut theirs) = UnixStream::pair(rt).expect(rt, "a pair");
@@ -293,7 +293,7 @@ fn addresses_of_tcp(rt: HostRuntime) {
     assert_addresses_of_tcp(&rt, rt.alloc());
 }
 
-// Asserts that a connection is without TLS and has exactly one request, which is for `/a` and has no client address.
+// Asserts that a connection doesn't use TLS and has exactly one request, which is for `/a` and has no client address.
 // Returns the request.
 fn assert_one_request<R: Host>(rt: &R, client: &mut Client<R>) -> ClientRequest<R> {
     assert_holds(rt, "it is without TLS", !client.secure());

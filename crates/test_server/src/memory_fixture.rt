@@ -29,7 +29,7 @@ pub(crate) fn now() -> Result<HttpDate, Fail> {
     Ok(HttpDate::from_unix_secs(420_895_020)?)
 }
 
-/// Waits until `count` is at least `want`, for at most 10,000 times 1 ms. Returns whether `count` got there.
+/// Waits until `count` is at least `want`, for at most 10,000 sleeps of 1 ms. Returns whether `count` reached `want`.
 pub(crate) fn is_reached<R: Clock>(rt: &R, count: &AtomicU64, want: u64) -> bool {
     for _ in 0..10_000u32 {
         if count.load(Ordering::SeqCst) >= want {

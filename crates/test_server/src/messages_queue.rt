@@ -65,7 +65,7 @@ fn push_both(rt: &impl Abort, queue: &mut QueueState<usize>, value: usize) -> (b
     (is_there, queue.unblock().is_ok())
 }
 
-// Asserts that the value and the mark are popped, if each was accepted.
+// Asserts that the value and the mark are popped, each if it was accepted.
 fn assert_pops_both(
     rt: &impl Abort,
     queue: &mut QueueState<usize>,

@@ -17,7 +17,7 @@ use tiny_http::server::{Server, ServerRequest};
 // Number of clients with one request each.
 const CLIENTS: usize = 100;
 
-// What the responding threads share.
+// The state that the responding threads share.
 #[derive(Drop)]
 struct Shared<'a, L: Ledger, R: Net + SocketFiles + Wait + Clock + Drop> {
     alloc: Global,

@@ -45,7 +45,7 @@ fn failing(kind: ErrorKind) -> Metered<FailsFirst> {
     Metered::new(FailsFirst { kind, calls: 0 })
 }
 
-// `Metered` returns the error of a read, and does not retry it. The next read reaches the inner stream.
+// `Metered` returns the error of a read, and does not retry the read. The next read reaches the inner stream.
 #[test]
 fn a_metered_read_that_failed_is_not_made_again(rt: HostRuntime) {
     for kind in [ErrorKind::Interrupted, ErrorKind::TimedOut] {

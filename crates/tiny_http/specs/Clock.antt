@@ -1,4 +1,4 @@
--- How a date is made from the system clock.
+-- The date of the system clock, in seconds.
 use Rattle.std.specs.Prelude.{ℕ, ◌/◌, Option, Some, None, nat_lt, if◌then◌else◌}
 use Rattle.std.specs.Duration.{as_nanos}
 use Rattle.std.specs.declared.time.Duration.{Duration}

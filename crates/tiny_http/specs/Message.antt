@@ -1,4 +1,4 @@
--- What a server returns for a message from its queue.
+-- The result of `recv` for a message from the server's queue.
 use Rattle.std.specs.Prelude.{Option, Some, None, Result, Ok, Err}
 use Rattle.std.specs.declared.io.Error.{Error as IoError}
 use Rattle.tiny_http_socket.specs.declared.refined_tcp_stream.RefinedTcpStream.{RefinedTcpStream}

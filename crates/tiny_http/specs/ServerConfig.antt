@@ -1,4 +1,4 @@
--- The parts of copies of a server's settings that contracts refer to.
+-- Copies of a server's settings.
 use Rattle.std.specs.Prelude.{◌≡◌, Option, Some, None, ⊤}
 use Rattle.tiny_http_socket.specs.Connection.{IsCopyOf}
 use Rattle.tiny_http.specs.declared.server.SslConfig.{SslConfig}

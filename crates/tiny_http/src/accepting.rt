@@ -22,7 +22,7 @@ use tiny_http_limits::limits::Limits;
 use tiny_http_limits::times::time_left;
 use tiny_http_request::client::ClientConnection;
 use tiny_http_socket::connection::{Connection, Listener};
-use tiny_http_socket::connection_timers::ConnectionTimers;
+use tiny_http_socket::shared_state::SharedState;
 use tiny_http_socket::cork::{Cork, halves};
 use tiny_http_socket::refined_tcp_stream::RefinedTcpStream;
 use tiny_http_socket::timed_reader::TimedReader;
@@ -78,8 +78,8 @@ impl<R: Wait + Clock + Drop> Message<R> {
 /// The queue of a server.
 pub(crate) type Messages<R> = MessagesQueue<Message<R>>;
 
-// Drops what is in the queue of a closed server. Once the server has been stopped, also leaves an unblock mark in the
-// queue, so that each waiting call returns.
+// Empties the queue of a closed server. Once the server has been stopped, also leaves an unblock mark in the queue, so
+// that each waiting call returns.
 fn drop_waiting<R: Wait + Clock + Drop>(rt: &R, messages: &Messages<R>, ending: &Ending) {
     messages.clear(rt);
     if ending.has_stopped() {
@@ -111,8 +111,8 @@ fn close_in_stages<R: Clock>(rt: &R, socket: &Connection, has_limits: bool) {
     }
 }
 
-/// A client that was accepted. When it is dropped, its connection is closed, or, if requests that are still held use
-/// the connection, once they no longer do.
+/// An accepted client. When it is dropped, its connection is closed as soon as no request that is still held uses the
+/// connection.
 #[derive(Drop)]
 pub(crate) struct Client<R: Wait + Clock + Drop> {
     rt: R,
@@ -154,8 +154,8 @@ impl<R: Wait + Clock + Copy> Client<R> {
         None
     }
 
-    // Hands the client's requests to a handler until there is no further one. Responses leave together. Once the server
-    // has been closed, the next request is dropped and is the last.
+    // Hands the client's requests to a handler until there is no further one. Consecutive responses leave together.
+    // Once the server has been closed, the next request is dropped and is the last.
     fn answer_requests<H: Handler<R, ServerRequest<R>>>(&mut self, alloc: Global, handler: &H) {
         let Ok(flush_policy) = Arc::try_clone(self.cork.flush_policy()) else {
             return;
@@ -192,8 +192,8 @@ pub(crate) struct Arrival<R: Wait + Clock + Drop> {
 }
 
 impl<R: Wait + Clock + Copy> Arrival<R> {
-    // Puts the client into the queue. Once the server has been closed, nothing takes a client from the queue, which is
-    // then emptied.
+    // Puts the client into the queue. Once the server has been closed, nothing takes a client from the queue, so this
+    // call then empties it.
     fn put(self, rt: &R, messages: &Messages<R>, ending: &Ending) {
         let _ = messages.push(rt, Message::NewClient(self));
         if ending.is_closed() {
@@ -272,7 +272,7 @@ impl<R: Wait + Clock + Threads + Copy + Send + 'static> Accepting<R> {
         self.ending.end_accepting();
     }
 
-    // Accepts clients, as `run` does. Under limits it waits at the limit of connections, and after a temporary error.
+    // Accepts clients, as `run` does. Under limits it waits at the connection limit, and after a temporary error.
     fn accept_all(&self) {
         let mut backoff = Backoff::new();
         for _ in self.rt.forever() {
@@ -326,7 +326,7 @@ impl<R: Wait + Clock + Threads + Copy + Send + 'static> Accepting<R> {
     }
 
     // Returns the client of this connection, or `None` if memory is refused, a limit refuses the client, or the server
-    // was closed. It sets TCP_NODELAY, so that small responses are sent at once, and ignores a failure of that.
+    // was closed. Sets TCP_NODELAY so that small responses are sent at once, and ignores a failure to set it.
     fn client(&self, connection: Connection, remote_addr: Option<SocketAddr>) -> Option<Client<R>> {
         let _ = connection.set_nodelay(true);
         let (rt, alloc) = (self.rt, self.alloc);
@@ -334,14 +334,14 @@ impl<R: Wait + Clock + Threads + Copy + Send + 'static> Accepting<R> {
         let socket = Arc::try_clone(reader.connection()).ok()?;
         let ending = Arc::try_clone(&self.ending).ok()?;
         let upgraded = Arc::try_clone(self.registry.upgraded()).ok()?;
-        let timers = ConnectionTimers::new(alloc, self.limits, upgraded).ok()?;
-        let guard = self.enter(remote_addr, &socket, &timers)?;
+        let shared = SharedState::new(alloc, self.limits, upgraded).ok()?;
+        let guard = self.enter(remote_addr, &socket, &shared)?;
         if self.ending.is_closed() {
             // The server was closed before the client was registered.
             return None;
         }
         let secure = reader.secure();
-        let (reader, writer) = self.timed_halves(reader, writer, &socket, &timers)?;
+        let (reader, writer) = self.timed_halves(reader, writer, &socket, &shared)?;
         let cork = Arc::try_clone(writer.cork()).ok()?;
         let profile = self.profile;
         let made = ClientConnection::over_with(
@@ -354,7 +354,7 @@ impl<R: Wait + Clock + Threads + Copy + Send + 'static> Accepting<R> {
             secure,
         );
         let mut connection = made.ok()?;
-        connection.set_timers(timers).ok()?;
+        connection.set_shared_state(shared).ok()?;
         Some(Client {
             rt,
             ending,
@@ -372,14 +372,14 @@ impl<R: Wait + Clock + Threads + Copy + Send + 'static> Accepting<R> {
         reader: RefinedTcpStream,
         writer: RefinedTcpStream,
         socket: &Arc<Connection>,
-        timers: &Arc<ConnectionTimers>,
+        shared: &Arc<SharedState>,
     ) -> Option<(ServerReader<R>, ServerWriter<R>)> {
         let (rt, alloc) = (self.rt, self.alloc);
-        let writer = TimedWriter::new(rt, writer, Arc::try_clone(timers).ok()?);
+        let writer = TimedWriter::new(rt, writer, Arc::try_clone(shared).ok()?);
         let (reader, writer) = halves(rt, alloc, reader, writer).ok()?;
         let socket = Arc::try_clone(socket).ok()?;
-        let timers = Arc::try_clone(timers).ok()?;
-        Some((TimedReader::new(rt, reader, socket, timers), writer))
+        let shared = Arc::try_clone(shared).ok()?;
+        Some((TimedReader::new(rt, reader, socket, shared), writer))
     }
 
     // Counts a client of this address as connected. Returns `None` if a limit refuses the client, memory is refused, or
@@ -388,11 +388,11 @@ impl<R: Wait + Clock + Threads + Copy + Send + 'static> Accepting<R> {
         &self,
         remote_addr: Option<SocketAddr>,
         socket: &Arc<Connection>,
-        timers: &Arc<ConnectionTimers>,
+        shared: &Arc<SharedState>,
     ) -> Option<ConnectionGuard<R>> {
         let handle = ConnectionHandle {
             socket: Arc::try_clone(socket).ok()?,
-            timers: Arc::try_clone(timers).ok()?,
+            shared: Arc::try_clone(shared).ok()?,
         };
         ConnectionGuard::enter(self.rt, &self.registry, remote_addr, handle)
     }

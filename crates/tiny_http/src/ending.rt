@@ -4,7 +4,7 @@ use std::sync::atomic::{AtomicBool, Ordering};
 /// The stage of a server's shutdown, which the server's threads share.
 #[derive(Drop)]
 pub(crate) struct Ending {
-    // Whether accepting was ended: no further client is to be accepted.
+    // Whether accepting has been ended: no further client is to be accepted.
     is_closed: AtomicBool,
     // Whether the accepting thread accepts no further client.
     has_accepted_all: AtomicBool,
@@ -13,7 +13,7 @@ pub(crate) struct Ending {
 }
 
 impl Ending {
-    /// Returns the state of a server that runs.
+    /// Returns the state of a running server.
     pub fn new() -> Ending {
         Ending {
             is_closed: AtomicBool::new(false),
@@ -22,7 +22,7 @@ impl Ending {
         }
     }
 
-    /// Ends accepting from now on. Returns whether this call is the first.
+    /// Ends accepting. Returns whether this call is the first.
     pub fn close(&self) -> bool {
         !self.is_closed.swap(true, Ordering::SeqCst)
     }

@@ -1,6 +1,6 @@
 //! A small HTTP server: it accepts clients and hands out their requests, which any thread may read and respond to.
 //!
-//! `Server::http` listens at an address, `recv` waits for a request, and `respond` sends a response. Responses leave in
+//! `Server::http` listens on an address, `recv` waits for a request, and `respond` sends a response. Responses leave in
 //! the order of the requests of their connection, so `respond` waits until the earlier requests are answered. A request
 //! that is dropped gets an empty 500. Threads may share a server, and each may receive requests. A loop over
 //! `incoming_requests` is a whole program:
@@ -21,9 +21,9 @@
 //! connection respond to that connection's requests itself.
 //!
 //! A call that needs the runtime, which locks, waits and opens sockets, or the allocator gets it as an argument:
-//! neither is implicit. A program lists `httpdate` if it makes dates, and the crate of each error that `?` converts to
-//! an `io::Error`: `tiny_http_head` for a `ParseError`, as after `Response::with`, and `tiny_http_request` for a
-//! `BodyError`.
+//! neither is implicit. A program depends on `httpdate` if it makes dates, and on the crate of each error that `?`
+//! converts to an `io::Error`: `tiny_http_head` for a `ParseError`, as after `Response::with`, and `tiny_http_request`
+//! for a `BodyError`.
 //!
 //! What a program needs, by module:
 //!
@@ -31,7 +31,7 @@
 //! - Requests and responses: `request`, `client` (a connection's requests), `common` (methods, headers, codes),
 //!   `response`, `streamed`, `upgrading`; `device` (readers and writers), `chunked` and `encoder`, `coding`, `target`.
 //! - Without threads: `driver`, `exchange`, `source`, `outlet`, `turns`.
-//! - In tests: `test`, `answer` (reads a response). And `laws`, what the contracts say in short.
+//! - In tests: `test`, `answer` (reads a response). And `laws`, what follows from the contracts' definitions.
 //!
 //! The other modules correspond to parts of the Rust crate that few programs need.
 #![tactic(auto)]

@@ -1,4 +1,4 @@
-//! The registry of a server's open connections, under one lock, and what the server has counted.
+//! The registry of a server's open connections and its counters, under one lock.
 use crate::ending::Ending;
 use std::alloc::{AllocError, Global};
 use std::net::{Shutdown, SocketAddr};
@@ -10,16 +10,16 @@ use tiny_http_limits::counts::Counts;
 use tiny_http_limits::limits::Limits;
 use tiny_http_limits::times::time_left;
 use tiny_http_socket::connection::Connection;
-use tiny_http_socket::connection_timers::ConnectionTimers;
+use tiny_http_socket::shared_state::SharedState;
 
-/// What a server keeps of an open connection.
+/// A server's handle to an open connection.
 #[derive(Drop)]
 pub(crate) struct ConnectionHandle {
     pub socket: Arc<Connection>,
-    pub timers: Arc<ConnectionTimers>,
+    pub shared: Arc<SharedState>,
 }
 
-// The open connections, and the server's counters, without what the open connections have counted so far.
+// The open connections, and the server's counters, to which a connection's own are added when it closes.
 #[derive(Drop)]
 struct Connections {
     table: ConnectionTable<ConnectionHandle>,
@@ -74,7 +74,7 @@ impl ConnectionRegistry {
         let connections = self.connections.lock(rt);
         let mut counts = connections.counts;
         for entry in connections.table.entries() {
-            counts.count_end(entry.item().timers.summary());
+            counts.count_end(entry.item().shared.summary());
         }
         counts
     }
@@ -89,7 +89,7 @@ impl ConnectionRegistry {
         self.connections.lock(rt).counts.count_accept_fault();
     }
 
-    /// Waits while the limit of connections is reached and the server isn't closed.
+    /// Waits while the connection limit is reached and the server isn't closed.
     pub fn wait_for_place<R: Wait>(&self, rt: &R, ending: &Ending) {
         let mut connections = self.connections.lock(rt);
         for _ in rt.forever() {
@@ -133,8 +133,8 @@ impl ConnectionRegistry {
         let mut connections = self.connections.lock(rt);
         let left = connections.table.leave(number);
         if let Some(handle) = &left {
-            connections.counts.count_end(handle.timers.summary());
-            handle.timers.end_stream();
+            connections.counts.count_end(handle.shared.summary());
+            handle.shared.end_stream();
         }
         drop(connections);
         // The client's connection ends here, before other threads are notified.
@@ -147,7 +147,7 @@ impl ConnectionRegistry {
         let connections = self.connections.lock(rt);
         for entry in connections.table.entries() {
             let handle = entry.item();
-            if handle.timers.stop() {
+            if handle.shared.stop() {
                 let _ = handle.socket.shutdown(Shutdown::Read);
             }
         }

@@ -91,14 +91,14 @@ pub type ServerStream<R> = CustomStream<ServerBody<R>, ServerOutput<R>>;
 pub enum Stopped {
     /// Every request that was handed out is answered, and every connection is closed.
     Answered,
-    /// The time is over, and some client is still connected.
+    /// The time has run out, and some client is still connected.
     TimeOver,
 }
 
 /// An error in making a server.
 #[derive(Debug, Drop, Error)]
 pub enum ServerError {
-    /// The server can't listen at the address, the host's name isn't found, the text isn't an address, the socket has
+    /// The server can't listen on the address, the host's name isn't found, the text isn't an address, the socket has
     /// no address, or the system has no thread for the server.
     #[error("{0}")]
     Io(io::Error),
@@ -142,17 +142,17 @@ impl From<ServerError> for io::Error {
 /// The settings of a server.
 #[derive(Debug, Drop)]
 pub struct ServerConfig {
-    /// The address to listen at.
+    /// The address to listen on.
     pub addr: ConfigListenAddr,
-    /// The TLS settings. TLS isn't implemented: with `Some` no server is made. The error is that of listening at the
+    /// The TLS settings. TLS isn't implemented: with `Some` no server is made. The error is that of listening on the
     /// address, if that fails, and otherwise `ServerError::Ssl`.
     pub ssl: Option<SslConfig>,
 }
 
-/// TLS settings, which are refused.
+/// TLS settings. A server refuses them, since TLS isn't implemented.
 #[derive(Debug, Drop)]
 pub struct SslConfig {
-    /// The certificate for clients.
+    /// The certificate to send to clients.
     pub certificate: Vec<u8>,
     /// The private key.
     pub private_key: Vec<u8>,
@@ -199,8 +199,8 @@ impl SslConfig {
 /// 500. The connection of a later request ends with that request; the connection of a queued request ends with its next
 /// request, or when the client closes it. A client that is being accepted at that moment may be turned away.
 ///
-/// The date of a request, which is that of its 500 if it is dropped, is read before the wait for its head: on an idle
-/// connection it is older than the request.
+/// The date of a request is read before the wait for its head, so on an idle connection that date is older than the
+/// request. If the request is dropped, its 500 has this date.
 pub struct Server<R: Net + SocketFiles + Wait + Clock + Drop> {
     pub(crate) rt: R,
     ending: Arc<Ending>,
@@ -218,7 +218,7 @@ impl<R: ServerRuntime> Server<R> {
         Server::http_with(rt, alloc, addr, Profile::Lenient)
     }
 
-    /// Makes a server as `http` does, but reads the heads of all its clients under this profile.
+    /// Makes a server as `http` does, but reads all request heads under this profile.
     pub fn http_with<A: ToSocketAddrs>(
         rt: R,
         alloc: Global,
@@ -236,7 +236,7 @@ impl<R: ServerRuntime> Server<R> {
         Server::new(rt, alloc, ServerConfig { addr, ssl: None })
     }
 
-    /// Makes a server with these settings. Heads are read under `Lenient`. Fails with `Io` if it can't listen at the
+    /// Makes a server with these settings. Heads are read under `Lenient`. Fails with `Io` if it can't listen on the
     /// address, and otherwise as `from_listener` does. If it fails, it leaves no file of a Unix socket that it made.
     pub fn new(rt: R, alloc: Global, config: ServerConfig) -> Result<Server<R>, ServerError>
         ensures ssl { IsSome config.ssl → IsErr result }
@@ -245,7 +245,7 @@ impl<R: ServerRuntime> Server<R> {
         Server::new_with(rt, alloc, config, Profile::Lenient)
     }
 
-    /// Makes a server as `new` does, but reads the heads of all its clients under this profile.
+    /// Makes a server as `new` does, but reads all request heads under this profile.
     pub fn new_with(
         rt: R,
         alloc: Global,
@@ -258,9 +258,10 @@ impl<R: ServerRuntime> Server<R> {
         Server::bound(rt, alloc, config, profile, None)
     }
 
-    /// Makes a server as `new_with` does, but with these limits for its clients, as an open port needs them. After a
-    /// temporary accept error, such as that no descriptor is left or that a client has reset its connection, it waits
-    /// and tries again. If no process listens on the Unix socket at its path, it first removes that socket's file.
+    /// Makes a server as `new_with` does, but with these limits for its clients, as a server for untrusted clients
+    /// needs them. After a temporary accept error, such as a lack of descriptors or a connection that its client has
+    /// reset, it waits and tries again. If the address is the path of a Unix socket on which no process listens, the
+    /// socket's file is removed first.
     pub fn with(
         rt: R,
         alloc: Global,
@@ -317,7 +318,7 @@ impl<R: ServerRuntime> Server<R> {
         Server::from_listener_with(rt, alloc, listener, ssl, Profile::Lenient)
     }
 
-    /// Makes a server as `from_listener` does, but reads the heads of all its clients under this profile.
+    /// Makes a server as `from_listener` does, but reads all request heads under this profile.
     pub fn from_listener_with(
         rt: R,
         alloc: Global,
@@ -332,7 +333,7 @@ impl<R: ServerRuntime> Server<R> {
     }
 
     /// Makes a server over this listening socket as `from_listener_with` does, but with these limits for its clients
-    /// and with the accept loop of `with`, as an open port needs them.
+    /// and with the accept loop of `with`.
     pub fn from_listener_within(
         rt: R,
         alloc: Global,
@@ -410,7 +411,7 @@ impl<R: Net + SocketFiles + Wait + Clock + Drop> Server<R> {
         IncomingRequests { server: self }
     }
 
-    /// Returns the address at which the server listens.
+    /// Returns the address on which the server listens.
     pub fn server_addr(&self) -> ListenAddr {
         match self.listening_addr.clone() {
             Ok(addr) => addr,
@@ -495,7 +496,7 @@ impl<R: Net<Listener = TcpListener, Stream = TcpStream> + SocketFiles + Wait + C
     /// The call waits, for at most `time`, until every request that was handed out is answered and every connection is
     /// closed; then each call that waits for a request, and `serve`, returns. A later call waits again for what is
     /// left. If a handler makes this call, the call waits for that handler's own request, too, and so takes the whole
-    /// time. It takes longer if a client doesn't read a 500 that is sent here.
+    /// time. The call takes longer if a client doesn't read a 500 that the call sends.
     pub fn stop(&self, time: Duration) -> Stopped {
         let begun = time_of(&self.rt);
         self.close_down();
@@ -516,7 +517,7 @@ impl<R: Net<Listener = TcpListener, Stream = TcpStream> + SocketFiles + Wait + C
 
 impl<R: Net + SocketFiles + Wait + Clock + Drop> Server<R> {
     /// Waits for a request for at most `timeout`, and returns `None` if none has come by then. A timeout of less than a
-    /// millisecond counts as 0. Otherwise it is like `try_recv`.
+    /// millisecond counts as 0. Otherwise the call is like `try_recv`.
     pub fn recv_timeout(&self, timeout: Duration) -> io::Result<Option<ServerRequest<R>>> {
         let begun = time_of(&self.rt);
         let mut left = timeout;
@@ -562,7 +563,7 @@ impl<R: Net + SocketFiles + Wait + Clock + Drop> Server<R> {
         }
     }
 
-    // Returns whether a call to `stop` has finished its wait: all was answered, or the time was over.
+    // Returns whether a call to `stop` has finished its wait: all was answered, or the time had run out.
     pub(crate) fn has_stopped(&self) -> bool {
         self.ending.has_stopped()
     }
@@ -584,7 +585,7 @@ impl<R: Net + SocketFiles + Wait + Clock + Drop> Drop for Server<R> {
     }
 }
 
-// Removes the file of a Unix socket on which no process listens any more.
+// Removes the file of a Unix socket on which no process listens.
 fn remove_stale<R: Net<Listener = TcpListener, Stream = TcpStream> + SocketFiles>(
     rt: &R,
     path: Path<'_>,

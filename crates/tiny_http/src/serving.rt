@@ -15,14 +15,14 @@ use tiny_http_threads::task_pool::{Job, TaskPool};
 /// it at once. (The request's type is a parameter, since no generated proof covers an implementation whose trait names
 /// that type itself.)
 pub trait Handler<R, Q> {
-    /// Responds to a request. A request that is dropped gets an empty 500, even if this call drops it because it fails;
-    /// the server ignores the error.
+    /// Responds to a request. A request that is dropped gets an empty 500, even if this call fails and so drops it. The
+    /// server ignores the error.
     ///
     /// Under `serve_by` the call may wait for the request's turn, as a program that calls `recv` and `respond` does.
     /// The rest of this comment is about `serve`.
     ///
     /// The call may keep the request and respond later from any thread. The next request is handed out meanwhile, once
-    /// the body of the kept request was read or given up, but under `Standard` not before the response to a kept
+    /// the body of the kept request has been read or given up, but under `Standard` not before the response to a kept
     /// request that asks for an upgrade. The response to the next request then waits, in this call, for the response to
     /// the kept request, and no further request of the connection is handed out meanwhile.
     ///
@@ -33,16 +33,16 @@ pub trait Handler<R, Q> {
     fn handle(&self, rt: &R, alloc: Global, request: Q) -> io::Result<()>;
 }
 
-// What a worker does with a handler.
+// The task of a worker.
 #[derive(Drop)]
 enum Work<R: Wait + Clock + Drop> {
     // Responds to the requests of a client, then closes its connection.
     Client(Arrival<R>),
-    // Responds to a request that was queued before the server began to serve. `None` once that is done.
+    // Responds to a request that was queued before the server began to serve. `None` once the request has been taken.
     Request(R, Option<ServerRequest<R>>),
 }
 
-// A worker's work, with the allocator and the handler that it needs.
+// The task of a worker, with the allocator and the handler for it.
 #[derive(Drop)]
 struct Service<H, R: Wait + Clock + Drop> {
     alloc: Global,
@@ -51,7 +51,7 @@ struct Service<H, R: Wait + Clock + Drop> {
 }
 
 impl<H: Handler<R, ServerRequest<R>> + Drop, R: Wait + Clock + Copy> Job for Service<H, R> {
-    /// Does the work.
+    /// Carries out the task.
     fn run(&mut self) {
         let handler = &*self.handler;
         match &mut self.work {

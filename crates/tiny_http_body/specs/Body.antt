@@ -1,4 +1,4 @@
--- What is still to come of a request's body, and the input state after it.
+-- The rest of a request's body, which is still to come, and the input state after it.
 use Rattle.std.specs.Prelude.{◌≡◌, ℕ, ◌+◌, ◌-◌, ◌<◌, ◌≤◌, Bool, true, false, not, ◌||◌, ◌==◌, nat_lt, List, []}
 use Rattle.std.specs.Prelude.{length, take, Option, Some, None, Result, Ok, Err, IfOk, IfErr, OnErr, IfSome}
 use Rattle.std.specs.Prelude.{MatchBool, ⊤, if◌then◌else◌}
@@ -28,13 +28,13 @@ use Rattle.tiny_http_io.specs.Source.{SourceState, GoesOn, IsAtEnd, SkipsBytes, 
 use Rattle.tiny_http_io.specs.declared.source.InputState.{InputState}
 use Rattle.tiny_http_io.specs.InputState.{after_body, after_fault, after_abandoned}
 
--- What is still to come of a body, and the feed after the body, which is empty if no head follows.
+-- The rest of a body, which is still to come, and the feed after the body, which is empty if no head follows.
 pub record Remaining : Type 0 where
   pub body : Feed
   pub behind : Feed
 
--- what remains of a chunked body with these data: a whole body ends, and the input continues after it; a body that is
--- cut or broken stops with its fault, and no head follows
+-- the rest of a chunked body with these data: a whole body ends, and the input continues after it; a body that is cut
+-- or broken stops with its fault, and no head follows
 abbrev pub chunks_remaining : List ℕ → Result Feed ErrorKind → Remaining
 chunks_remaining bytes (Ok feed) = record { body = whole_feed bytes; behind = feed }
 chunks_remaining bytes (Err kind) = record { body = record { bytes = bytes; stop = Fault kind }; behind = stopped End }
@@ -57,20 +57,20 @@ cut_stop true stop = Fault (fault_of stop)
 abbrev pub cut_feed : Bool → Feed → Feed
 cut_feed by_standard feed = record { bytes = feed.bytes; stop = cut_stop by_standard feed.stop }
 
--- what remains of a body of n bytes of the input; if the input has fewer, no head follows
+-- the rest of a body of which n bytes are left in the input; if the input has fewer, no head follows
 abbrev pub counted_remaining : Bool → ℕ → Feed → Remaining
 counted_remaining by_standard n feed =
     record { body = feed_front n (cut_feed by_standard feed); behind = skipped n feed }
 
--- what remains of a body that was taken from the input already
+-- the rest of a body that has already been taken from the input
 abbrev pub taken_remaining : Feed → Feed → Remaining
 taken_remaining body feed = record { body = body; behind = feed }
 
--- what remains of a body that is the whole rest of the input; no head follows
+-- the rest of a body that is the whole rest of the input; no head follows
 abbrev pub rest_remaining : Feed → Remaining
 rest_remaining feed = record { body = feed; behind = stopped End }
 
--- what remains of a body if the input still has this feed
+-- the rest of a body if the input still has this feed
 abbrev pub remaining : UnreadBody → Option Feed → Option Remaining
 remaining (Over stop) feed = option_map (taken_remaining (stopped stop)) feed
 remaining (WithHead bytes) feed = option_map (taken_remaining (whole_feed (cursor_bytes bytes))) feed
@@ -94,19 +94,19 @@ pub record IsNewDecoding (by_standard : Bool) (d : Decoding) : Type 0 where
 abbrev pub IsNewChunked : Bool → UnreadBody → Type 0
 IsNewChunked by_standard b = (d : Decoding) × (b ≡ Chunked d) × IsNewDecoding by_standard d
 
--- these bytes of a body, then what remains of the body
+-- these bytes of a body, then the rest of the body
 abbrev pub prepend_body : List ℕ → Remaining → Remaining
 prepend_body bs r = record { body = prepend bs r.body; behind = r.behind }
 
 abbrev pub prepended_body : List ℕ → Option Remaining → Option Remaining
 prepended_body bs r = option_map (prepend_body bs) r
 
--- whether no byte of the body is left and the body stops in this way, if what remains is stated
+-- whether no byte of the body is left and the body stops in this way, if the rest of the body is stated
 abbrev pub BodyStops : Stop → Option Remaining → Type 0
 BodyStops stop None = ⊤
 BodyStops stop (Some r) = r.body ≡ stopped stop
 
--- whether no byte of the body is left, if what remains is stated
+-- whether no byte of the body is left, if the rest of the body is stated
 abbrev pub NoneRemains : Option Remaining → Type 0
 NoneRemains None = ⊤
 NoneRemains (Some r) = r.body.bytes ≡ []
@@ -137,7 +137,7 @@ bytes_left (Counted n by_standard) = Some n
 bytes_left (Chunked decoding) = None
 bytes_left Rest = None
 
--- what is left of a body when its request is finished
+-- the remainder of a body when its request is finished
 abbrev pub remainder : UnreadBody → Remainder
 remainder (Over End) = left.Skipped
 remainder (Over (Fault kind)) = left.Endless
@@ -284,10 +284,10 @@ body_input_state (Counted n by_standard) input_state = input_state
 body_input_state (Chunked decoding) input_state = input_state
 body_input_state Rest input_state = input_state
 
--- WHAT A READ RETURNS of a body, and what it leaves. The bytes returned are the next ones of the body, at most as many
--- as fit. A read into a nonempty buffer that returns 0 is at the end of the body; a fault is the body's own. A body
--- with a `Content-Length` is over with its last byte; any other body that is read from the input is over once its end
--- or fault has been reported. After the first fault the source is at its end. The input advances or stays.
+-- THE RESULT OF A READ of a body, and the rest of the body after it. The bytes returned are the next ones of the body,
+-- at most as many as fit. A read into a nonempty buffer that returns 0 is at the end of the body; a fault is the body's
+-- own. A body with a `Content-Length` is over with its last byte; any other body that is read from the input is over
+-- once its end or fault has been reported. After the first fault the source is at its end. The input advances or stays.
 pub record ReadsRemaining {R : Type 0} (old new : UnreadBody) (from to : SourceState R) (r : Result ℕ Error)
     (buf : List ℕ) : Type 0 where
   pub bound : IfOk r (λ n. n ≤ length buf)
@@ -313,8 +313,8 @@ pub record ReadsBody {R : Type 0} (old new : UnreadBody) (from to : SourceState 
   pub reports_stop : IfSome (body_stop old) (λ stop. 0 < length buf → AnswersStop stop r × (new ≡ old))
   pub input_state : is_streaming old ≡ true → to.input_state ≡ body_input_state new from.input_state
 
--- The effect of one read, into a nonempty buffer, of a body that isn't read from the input, neither before nor
--- afterwards.
+-- The effect of one read, into a nonempty buffer, of a body that is read from the input neither before nor after this
+-- read.
 pub record ReadsHeld (old new : UnreadBody) (r : Result ℕ Error) (buf : List ℕ) : Type 0 where
   pub bound : IfOk r (λ n. n ≤ length buf)
   pub bytes : (feed : Option Feed) → IfOk r (λ n. remaining old feed ≡ prepended_body (take n buf) (remaining new feed))

@@ -15,7 +15,7 @@ use Rattle.tiny_http_body.specs.declared.chunked.ChunkRules.{ChunkRules}
 use Rattle.tiny_http_body.specs.declared.chunked.ChunkRules.TheVariants.{Lenient, Standard}
 use Rattle.tiny_http_head.specs.HeadReading.{line, front_while}
 
--- the text of the size in a chunk-size line, once spaces and tabs around it are removed
+-- the text of the size in a chunk-size line, without the spaces and tabs around it
 abbrev pub digits_of : List ℕ → List ℕ
 digits_of text = trimmed is_bws (front_while (λ b. not (b == semicolon)) text)
 

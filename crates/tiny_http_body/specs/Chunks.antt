@@ -33,8 +33,8 @@ is_bws b = b == 9 || b == 32
 abbrev pub is_hex : ℕ → Bool
 is_hex b = nat_lt (digit_value b) 16
 
--- whether the text is a chunk-size [ chunk-ext ] of this size: the text before the first `;`, once spaces and tabs
--- around it are removed, is 1 to 16 hexadecimal digits
+-- whether the text is a chunk-size [ chunk-ext ] of this size: the text before the first `;`, without the spaces and
+-- tabs around it, is 1 to 16 hexadecimal digits
 pub record SizeText (text : List ℕ) (size : ℕ) : Type 0 where
   pub part : List ℕ
   pub extension : List ℕ
@@ -174,8 +174,8 @@ pub data Remainder : Type 0 where
   CutTrailer : (last : List ℕ) (trailers : List (List ℕ)) (next : List ℕ) → Remainder
   LongTrailer : (last : List ℕ) (trailers : List (List ℕ)) (next : List ℕ) → Remainder
 
--- whether a body breaks off in this way after its whole chunks: `part` is what has come of the next chunk's data, and
--- `kind` is the kind of the fault
+-- whether a body breaks off in this way after its whole chunks: `part` is the part of the next chunk's data that has
+-- come, and `kind` is the kind of the fault
 abbrev pub RemainderBreaksBy : ChunkRules → Remainder → List ℕ → Stop → List ℕ → ErrorKind → Type 0
 -- no chunk-size line
 RemainderBreaksBy rules NoSizeLine bytes stop part kind = (part ≡ []) × ChunkLineFaultBy rules bytes stop kind

@@ -1,4 +1,4 @@
--- What is still to come from a decoder of a chunked body (RFC 9112, section 7.1).
+-- The data still to come from a decoder of a chunked body, and the end of that body (RFC 9112, section 7.1).
 use Rattle.std.specs.Prelude.{◌≡◌, ℕ, ◌+◌, ◌<◌, ◌≤◌, nat_lt, List, [], ◌++◌, length, take, Option, Some, None, Result}
 use Rattle.std.specs.Prelude.{Ok, Err, IfOk, IfErr, OnErr, IsSome, IfSome, ⊤}
 use Rattle.std.specs.Option.{option_map}
@@ -45,12 +45,12 @@ rest_at stop (Err kind) = Err kind
 abbrev pub coming_of : Stop → Decoded → Coming
 coming_of stop d = record { bytes = d.body; behind = rest_at stop d.ends }
 
--- what is still to come of the body from this state on, if the reader's feed is stated
+-- the data still to come from this state on, and the feed after the body, or the fault, if the reader's feed is stated
 abbrev pub comes : ChunkRules → Next → Option Feed → Option Coming
 comes rules next feed = option_map (λ f. coming_of f.stop (decoded_from_by rules next f)) feed
 
--- what is still to come after the last chunk's line, with at most this many trailer lines, if the reader's feed is
--- stated
+-- the feed after the body, or the fault, once the last chunk's line has been read, with at most this many trailer
+-- lines, if the reader's feed is stated; no data are still to come
 abbrev pub trails : ChunkRules → ℕ → Option Feed → Option Coming
 trails rules most feed = option_map (λ f. coming_of f.stop (trailers_from rules most f)) feed
 
@@ -99,15 +99,15 @@ next_stop (Broken kind) = Some (Fault kind)
 abbrev pub decoding_stop : Decoding → Option Stop
 decoding_stop d = next_stop d.next
 
--- these data, then what is still to come
+-- these data, then the data still to come, and the end of the body
 abbrev pub prepend_data : List ℕ → Coming → Coming
 prepend_data bs c = record { bytes = bs ++ c.bytes; behind = c.behind }
 
--- these data, then what is still to come, if that is stated
+-- these data, then the data still to come, and the end of the body, if these are stated
 abbrev pub prepended_data : List ℕ → Option Coming → Option Coming
 prepended_data bs c = option_map (prepend_data bs) c
 
--- what is still to come if the body is over and this feed comes after it
+-- no data, and this feed after the body
 abbrev pub over_at : Feed → Coming
 over_at feed = record { bytes = []; behind = Ok feed }
 
@@ -132,7 +132,7 @@ decoder_reads d feed = decoding_reads d.decoding feed
 abbrev pub decoder_stop : {R : Type 0} → Decoder R → Option Stop
 decoder_stop d = decoding_stop d.decoding
 
--- how the data of a body stop: with an end if the body is whole, and otherwise with the fault
+-- the stop of a body's data: an end if the body is whole, and otherwise the fault
 abbrev pub stop_behind : Result Feed ErrorKind → Stop
 stop_behind (Ok rest) = End
 stop_behind (Err kind) = Fault kind
@@ -148,8 +148,8 @@ decoder_feed feed d = option_map feed_of (decoder_coming feed d)
 -- ONE READ of a decoder. The bytes returned are the next ones of the body's data. A read into a nonempty buffer that
 -- returns 0 is at the body's end, and the inner reader is just after the body. A fault is reported only where the data
 -- break off, and takes no data. Whatever the reader states, a read into an empty buffer changes nothing, a reported end
--- or fault is reported from then on, only bytes at the reader's front are taken, and up to a fault none beyond the one
--- that shows it.
+-- or fault is reported from then on, only bytes at the front of the reader's feed are taken, and none after the byte
+-- that shows a fault.
 pub record ReadsData {R : Type 0} (feed : R → Option Feed) (old new : Decoder R) (r : Result ℕ Error)
     (buf : List ℕ) : Type 0 where
   pub bound : IfOk r (λ n. n ≤ length buf)

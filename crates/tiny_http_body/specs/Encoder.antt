@@ -6,8 +6,8 @@ use Rattle.std.specs.declared.io.ErrorKind.TheVariants.{BrokenPipe}
 use Rattle.tiny_http_io.specs.Device.{Sink, Took, Failed}
 use Rattle.tiny_http_body.specs.ChunkedPrinting.{full_chunks, left_over}
 
--- The parts of an `Encoder` that contracts refer to: the inner writer, what the writer states, the bytes of an
--- unfinished chunk, and whether the writer has failed.
+-- The parts of an `Encoder` that contracts refer to: the inner writer, the writer's sink, the bytes of an unfinished
+-- chunk, and whether the writer has failed.
 pub record EncoderState (W : Type 0) : Type 0 where
   pub writer : W
   pub sink : Sink

@@ -84,7 +84,7 @@ names_upgrade headers = mentions (codes "upgrade") (value_of (codes "Connection"
 abbrev pub names_coding : List Header → Bool
 names_coding headers = is_some (value_of (codes "Transfer-Encoding") headers)
 
--- HOW THE BODY IS READ: whether it has this form. An upgrade takes precedence over a coding, and a coding over a
+-- THE FORM OF THE BODY: whether the body has this form. An upgrade takes precedence over a coding, and a coding over a
 -- length. A body of 1 to `LONGEST_WITH_HEAD` bytes is read with its head, unless a 100 is due.
 abbrev pub IsForm : Form → Bool → Bool → Bool → Option ℕ → Type 0
 IsForm Rest upgrade coded owed n = upgrade ≡ true
@@ -102,8 +102,8 @@ is_last v connection =
     (mentions (codes "close") connection || mentions (codes "upgrade") connection)
     || ((v.0 == 1 && v.1 == 0) && not (mentions (codes "keep-alive") connection))
 
--- HOW A HEAD FRAMES ITS REQUEST, or why the head is refused: the framing is invalid, which is checked first, or an
--- expectation can't be met.
+-- THE FRAMING OF A REQUEST, or the reason why its head is refused: the framing is invalid, which is checked first, or
+-- an expectation can't be met.
 abbrev pub Frames : HeadRules → HTTPVersion → List Header → Result Framing FramingFault → Type 0
 Frames p v headers (Err Invalid) = (n : Option ℕ) → IsBodyLength p headers n → ⊥
 Frames p v headers (Err Expectation) =

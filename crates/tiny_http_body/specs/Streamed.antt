@@ -10,8 +10,8 @@ use Rattle.tiny_http_body.specs.declared.chunks.TheConstants.{CHUNK}
 use Rattle.tiny_http_body.specs.declared.streamed.StreamedForm.{StreamedForm}
 use Rattle.tiny_http_body.specs.declared.streamed.StreamedForm.TheVariants.{Chunks, Plain, Absent}
 
--- The parts of a `Streamed` that contracts refer to: the inner writer, what the writer states, how the body is sent,
--- the held bytes, and whether the writer has failed.
+-- The parts of a `Streamed` that contracts refer to: the inner writer, the writer's sink, the form of the body, the
+-- held bytes, and whether the writer has failed.
 pub record StreamedState (W : Type 0) : Type 0 where
   pub writer : W
   pub sink : Sink

@@ -1,4 +1,4 @@
--- A text to send and how it ends, and the bodies that data become (RFC 9112, sections 6 and 7).
+-- Texts to send, their endings, and the bodies that data become (RFC 9112, sections 6 and 7).
 use Rattle.std.specs.Prelude.{◌≡◌, ℕ, ◌≤◌, List, [], ◌++◌, length, take, drop, Option, Some, Result, Ok, Err, OnOk}
 use Rattle.std.specs.Prelude.{nat_le, if◌then◌else◌, ◌⊎◌}
 use Rattle.std.specs.IoError.{error_kind}
@@ -9,12 +9,12 @@ use Rattle.tiny_http_io.specs.declared.device.Stop.{Stop}
 use Rattle.tiny_http_io.specs.declared.device.Stop.TheVariants.{End, Fault}
 use Rattle.tiny_http_body.specs.ChunkedPrinting.{full_chunks, chunked}
 
--- how a text ends: whole, or broken off by a fault
+-- the ending of a text: whole, or broken off by a fault
 pub data Ending : Type 0 where
   Whole : Ending
   Broken : ErrorKind → Ending
 
--- bytes to send, and how they end
+-- bytes to send, and their ending
 pub record Text : Type 0 where
   pub bytes : List ℕ
   pub ending : Ending
@@ -27,7 +27,7 @@ prepend_text front text = record { bytes = front ++ text.bytes; ending = text.en
 abbrev pub whole : List ℕ → Text
 whole bytes = record { bytes = bytes; ending = Whole }
 
--- the text of which no byte is sent and this fault is reported
+-- the text without bytes, broken off by this fault
 abbrev pub nothing_sent : ErrorKind → Text
 nothing_sent kind = record { bytes = []; ending = Broken kind }
 

@@ -18,12 +18,12 @@ use tiny_http_io::source::{InputState, Source};
 /// Maximum number of unread bytes of a body of known length that are skipped before the next head under `Standard`.
 pub const MOST_SKIPPED: usize = 65_536;
 
-/// What is left of a body when its request is finished.
+/// The remainder of a body when its request is finished.
 #[derive(Clone, Copy, Debug, PartialEq, Eq)]
 pub enum Remainder {
     /// At most `MOST_SKIPPED` bytes of a known length, which can be skipped before the next head. A body that is in
-    /// memory or has ended without a fault counts as this too, and so does the whole rest of the input, which no head
-    /// follows.
+    /// memory or has ended without a fault counts as `Skipped` too, and so does the whole rest of the input, which no
+    /// head follows.
     Skipped,
     /// More than `MOST_SKIPPED` bytes of a known length.
     Long,
@@ -88,7 +88,7 @@ pub fn chunked(by_standard: bool) -> UnreadBody
 }
 
 impl UnreadBody {
-    // Reads some bytes of a body of known length. After a body that is cut no head follows.
+    // Reads some bytes of a body of known length. No head follows a body that is cut.
     fn read_counted<R: ReadDevice>(
         &mut self,
         source: &mut Source<R>,
@@ -130,7 +130,7 @@ impl UnreadBody {
         }
     }
 
-    // Reads some data of a chunked body. After a body that is cut or broken no head follows.
+    // Reads some data of a chunked body. No head follows a body that is cut or broken.
     fn read_chunked<R: ReadDevice>(
         &mut self,
         source: &mut Source<R>,
@@ -317,7 +317,7 @@ impl UnreadBody {
         !matches!(self, UnreadBody::Over(_) | UnreadBody::WithHead(_))
     }
 
-    /// Returns what would be left of the body if its request were finished now.
+    /// Returns the remainder that the body would have if its request were finished now.
     pub fn remainder(&self) -> Remainder
         ensures { result ≡ remainder self.now }
     {

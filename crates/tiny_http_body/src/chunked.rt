@@ -35,8 +35,8 @@ pub const MOST_TRAILERS: usize = 128;
 /// that is too long is reported before it ends.
 #[derive(Clone, Copy, Debug, PartialEq, Eq)]
 pub enum ChunkRules {
-    /// A line ends at its first CR LF. The chunk size is the text before the first `;`, once bytes 9 and 32 around it
-    /// are removed. Of extensions and trailer lines only the length is checked.
+    /// A line ends at its first CR LF. The chunk size is the text before the first `;`, without bytes 9 and 32 around
+    /// it. Of extensions and trailer lines only the length is checked.
     Lenient,
     /// As RFC 9112 requires (sections 2.2 and 7.1 to 7.1.2). A line ends at its first LF; an LF without a CR before it
     /// is `InvalidData` as soon as it is read. A chunk-size line begins with its digits; bytes 9 and 32 may follow,
@@ -45,7 +45,7 @@ pub enum ChunkRules {
     Standard,
 }
 
-/// What must come next in a chunked body.
+/// The part of a chunked body that must come next.
 #[derive(Clone, Copy, Drop)]
 enum Next {
     /// A chunk-size line.
@@ -233,8 +233,8 @@ impl Decoding {
         }
     }
 
-    /// Reads some data into the front of `buf` and returns how many bytes: 0 at the end, or if `buf` is empty. It
-    /// allocates nothing. Chunk-size lines, CR LFs and the trailer section are consumed, and nothing after the trailer
+    /// Reads some data into the front of `buf` and returns how many bytes: 0 at the end, or if `buf` is empty. Nothing
+    /// is allocated. Chunk-size lines, CR LFs and the trailer section are consumed, and nothing after the trailer
     /// section (RFC 9112, section 7.1). The end is reported once the trailer section has been read.
     ///
     /// Fails with `InvalidData` if the body breaks the `ChunkRules`, or exceeds `LONGEST_LINE` or `MOST_TRAILERS`; with
@@ -268,7 +268,7 @@ impl Decoding {
         ensures reports_stop { IfSome (decoding_stop self.old) (λ stop. 0 < length buf.new → AnswersStop stop result) }
         // Only bytes at the front of the reader's feed are consumed.
         ensures takes { TakesFront (R.feed reader.old) (R.feed reader.new) }
-        // Up to a fault no byte is consumed beyond the one that shows it.
+        // No byte is consumed after the one that shows a fault.
         ensures needed { OnErr result (TakesNeeded (decoding_reads self.old) (R.feed reader.old) (R.feed reader.new)) }
         // The reader reports at most one end or fault, and none if bytes were read.
         ensures stop_count { Tells (R.stop_count reader.old) (R.stop_count reader.new) result }

@@ -91,8 +91,8 @@ impl<W: WriteDevice> Encoder<W> {
 
     /// Sends the buffered bytes as a chunk, if there are any, and the end of the body, and returns the inner writer.
     /// All bytes that the encoder was given are then written, in chunks of 8192 bytes, of which the last with data may
-    /// be shorter. The writer isn't flushed. Fails with the writer's fault; after an earlier fault it fails with
-    /// `BrokenPipe`, and nothing is written.
+    /// be shorter. The writer isn't flushed. Fails with the writer's fault. After an earlier fault, fails with
+    /// `BrokenPipe` and writes nothing.
     pub fn finish(mut self) -> Result<W, io::Error>
     where
         W: Drop,

@@ -29,16 +29,16 @@ pub const STRICT_HEAD: usize = 65_536;
 /// section 5, set no maximum).
 pub const STANDARD_HEAD: usize = 65_536;
 
-/// How strictly requests are validated.
+/// The strictness with which requests are validated.
 #[derive(Clone, Copy, Debug, PartialEq, Eq)]
 pub enum Profile {
-    /// As the original, tiny_http 0.12: the first `Content-Length` counts, a `Transfer-Encoding` of any value means
+    /// As the Rust crate, tiny_http 0.12: the first `Content-Length` counts, a `Transfer-Encoding` of any value means
     /// chunked and overrides the length, and a head may be of any size.
     Lenient,
-    /// Laxer than `Standard`, which is the profile to use behind a proxy. As `Lenient`, but it refuses `Content-Length`
-    /// values that aren't one number, `Content-Length` beside `Transfer-Encoding`, a `Transfer-Encoding` that doesn't
-    /// end in `chunked` (RFC 9112, sections 6.1 to 6.3), and a head of more than `STRICT_HEAD` bytes (RFC 6585, section
-    /// 5).
+    /// Laxer than `Standard`, which is the profile to use behind a proxy. Like `Lenient`, but it refuses
+    /// `Content-Length` values that aren't one number, `Content-Length` beside `Transfer-Encoding`, a
+    /// `Transfer-Encoding` that doesn't end in `chunked` (RFC 9112, sections 6.1 to 6.3), and a head of more than
+    /// `STRICT_HEAD` bytes (RFC 6585, section 5).
     Strict,
     /// As RFC 9110 and RFC 9112 require: heads follow their grammar, and `tiny_http_standard_head` validates them. What
     /// `Strict` refuses is refused too; `chunked` is the only transfer coding. The lines of a chunked body follow the
@@ -47,13 +47,13 @@ pub enum Profile {
     Standard,
 }
 
-/// The rules for heads that are read according to the original's grammar, that is, under the profiles other than
+/// The rules for heads that are read according to the Rust crate's grammar, that is, under the profiles other than
 /// `Standard`.
 #[derive(Clone, Copy, Debug, PartialEq, Eq)]
 pub enum HeadRules {
-    /// As `Profile::Lenient`.
+    /// The rules of `Profile::Lenient`.
     Lenient,
-    /// As `Profile::Strict`.
+    /// The rules of `Profile::Strict`.
     Strict,
 }
 
@@ -82,7 +82,7 @@ pub enum FramingFault {
     Expectation,
 }
 
-/// How a request's body is delimited (RFC 9112, section 6).
+/// The way in which a request's body is delimited (RFC 9112, section 6).
 #[derive(Clone, Copy, Debug, PartialEq, Eq)]
 pub enum Form {
     /// The whole rest of the stream: the first `Connection` value contains `upgrade`. Never under `Standard`.
@@ -100,7 +100,7 @@ pub enum Form {
 /// The framing of a request, as its head states it, and whether the connection ends after the request.
 #[derive(Clone, Copy, Debug, PartialEq, Eq)]
 pub struct Framing {
-    /// How the body is delimited.
+    /// The way in which the body is delimited.
     pub form: Form,
     /// Whether the head expects a 100 (Continue) before the body.
     pub owes_continue: bool,

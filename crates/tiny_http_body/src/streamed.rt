@@ -12,14 +12,14 @@ use std::io::{ErrorKind, Write};
 use std::marker::Model;
 use tiny_http_io::device::{WriteDevice, put};
 
-/// How a body follows the head of its response.
+/// The form in which a body follows the head of its response.
 #[derive(Clone, Copy, Debug, PartialEq, Eq)]
 pub enum StreamedForm {
     /// In chunks, ended by the last chunk (RFC 9112, section 7.1).
     Chunks,
     /// As is, ended by the end of the connection (RFC 9112, section 6.3).
     Plain,
-    /// Not at all, because the response may have no content, for example after a `HEAD`: what is written is discarded.
+    /// Not at all, because the response must not have content, for example after a `HEAD`: written bytes are discarded.
     Absent,
 }
 
@@ -131,7 +131,7 @@ impl<W: WriteDevice> Streamed<W> {
         &self.inner
     }
 
-    /// Returns how the body follows the head of its response.
+    /// Returns the form in which the body follows the head of its response.
     pub fn form(&self) -> StreamedForm
         ensures { result ≡ self.now.form }
     {
@@ -147,7 +147,7 @@ impl<W: WriteDevice> Streamed<W> {
     }
 
     /// Sends the buffered bytes and the end of the body, and returns the inner writer, which isn't flushed. Fails with
-    /// the writer's fault; after an earlier fault it fails with `BrokenPipe`, and nothing is written.
+    /// the writer's fault. After an earlier fault, fails with `BrokenPipe` and writes nothing.
     pub fn finish(mut self) -> Result<W, io::Error>
     where
         W: Drop,

@@ -1,8 +1,8 @@
--- What a client reads that knows only the method of its request (RFC 9112, sections 2.2, 4, 5, 6.3 and 7.1; RFC 9110,
--- section 15.2). Where the RFCs leave a choice, or the server never sends such a response, it is read as follows: a 101
--- is skipped like any other head from 100 to 199; there is no rule for CONNECT, for a body that ends with the
--- connection, or for transfer codings other than `chunked`; of two Content-Length headers the first is read; a status
--- is any number up to 65,535; and a field name may be empty.
+-- The responses that a client reads if it knows only the method of its request (RFC 9112, sections 2.2, 4, 5, 6.3 and
+-- 7.1; RFC 9110, section 15.2). If the RFCs leave a choice, or the server never sends such a response, the client reads
+-- as follows: a 101 is skipped like any other head from 100 to 199; there is no rule for CONNECT, for a body that ends
+-- with the connection, or for transfer codings other than `chunked`; of two Content-Length headers the first is read; a
+-- status is any number up to 65,535; and a field name may be empty.
 use Rattle.std.specs.Prelude.{◌≡◌, ℕ, ◌<◌, ◌≤◌, ◌⊎◌, Bool, true, false, ◌&&◌, ◌||◌, ◌==◌, nat_lt, nat_le, List, []}
 use Rattle.std.specs.Prelude.{◌∷◌, ◌++◌, length, Option, Some, None, option_and_then, if◌then◌else◌, codes, decimal}
 use Rattle.std.specs.Prelude.{IsTrue}
@@ -81,8 +81,9 @@ PassesOver bytes [] rest = rest ≡ bytes
 PassesOver bytes (h ∷ hs) rest =
     (next : List ℕ) × BeginsWithAnswerHead bytes h next × (is_interim h.status ≡ true) × PassesOver next hs rest
 
--- How the body after a head ends. `NoBody`: no body follows. `OfChunks`: with the last chunk and its trailer section.
--- `OfLength`: after this number of bytes. `OfUnknownLength`: the head doesn't say, which breaks a rule.
+-- The extent of the body after a head: how the body ends. `NoBody`: no body follows. `OfChunks`: with the last chunk
+-- and its trailer section. `OfLength`: after this number of bytes. `OfUnknownLength`: the head doesn't say, which
+-- breaks a rule.
 pub data Extent : Type 0 where
   NoBody : Extent
   OfChunks : Extent
@@ -143,7 +144,8 @@ pub record ReadsAnswer (method : Method) (bytes : List ℕ) (answer : ClientAnsw
   pub is_final : is_interim answer.head.status ≡ false
   pub has_body : BeginsWithBody (extent method answer.head) after answer.body rest
 
--- Why the bytes begin with no response. `Unfinished`: they end before it does. `Invalid`: they break a rule.
+-- The reason why the bytes begin with no response. `Unfinished`: they end before the response does. `Invalid`: they
+-- break a rule.
 pub data Lack : Type 0 where
   Unfinished : Lack
   Invalid : Lack

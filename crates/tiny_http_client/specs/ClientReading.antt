@@ -1,4 +1,4 @@
--- What a client reads, as a computation: the functions that compute what the relation `ReadsAnswer` defines.
+-- Functions that compute what a client reads, which the relation `ReadsAnswer` defines.
 use Rattle.std.specs.Prelude.{ℕ, zero, suc, ◌+◌, Bool, true, false, not, ◌&&◌, ◌==◌, nat_lt, nat_le, List, [], ◌∷◌}
 use Rattle.std.specs.Prelude.{length, take, drop, Option, Some, None, Result, Ok, Err, if◌then◌else◌, codes, decimal}
 use Rattle.std.specs.List.{list_all}

@@ -1,4 +1,4 @@
--- What a client reads back from the text of a response: the headers that were printed and the body that was sent.
+-- The response that a client reads back from its text: the headers that were printed and the body that was sent.
 use Rattle.std.specs.Prelude.{◌≡◌, ℕ, ◌<◌, ◌≤◌, ◌^◌, Bool, false, List, [], ◌∷◌, ◌++◌, length, take, Option, Some}
 use Rattle.std.specs.Prelude.{None, codes, decimal, if◌then◌else◌}
 use Rattle.std.specs.List.{AllByRecursion}

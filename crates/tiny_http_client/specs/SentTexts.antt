@@ -1,11 +1,11 @@
--- What a connection sends, response by response.
+-- The texts that a connection sends, response by response.
 use Rattle.std.specs.Prelude.{◌≡◌, ℕ, ◌<◌, ◌⊎◌, List, [], ◌∷◌, ◌++◌, length, map, Option, Some, None, MatchOption}
 use Rattle.tiny_http_head.specs.declared.common.Method.{Method}
 use Rattle.tiny_http_io.specs.Device.{IsFront}
 use Rattle.tiny_http_client.specs.ClientAnswer.{ClientAnswer, ReadsAnswer, UnfinishedAnswer}
 
--- The text sent for one request: the request's method, the text, and the response that the text is, or `None` if the
--- text breaks off or there is no response yet.
+-- The text sent for one request: the request's method, the text, and the response that a client reads from the text, or
+-- `None` if the text breaks off or there is no response yet.
 pub record SentText : Type 0 where
   pub method : Method
   pub text : List ℕ
@@ -18,7 +18,7 @@ BreaksOff m text = (more : List ℕ) × (a : ClientAnswer) × (0 < length more) 
 abbrev pub IsSentText : SentText → Type 0
 IsSentText x = MatchOption x.answer (BreaksOff x.method x.text) (λ a. ReadsAnswer x.method x.text a [])
 
--- the bytes sent after a text that is this response; none if it is no whole response (`None`)
+-- the bytes sent after a text that is this response, or no bytes if the text isn't a whole response (`None`)
 abbrev pub joined_behind : Option ClientAnswer → List ℕ → List ℕ
 joined_behind None behind = []
 joined_behind (Some a) behind = behind
@@ -30,7 +30,7 @@ joined_texts (x ∷ xs) = x.text ++ joined_behind x.answer (joined_texts xs)
 abbrev pub methods : List SentText → List Method
 methods xs = map (λ x. x.method) xs
 
--- this response, if the text is one, and the responses of the texts after it; none if the text breaks off
+-- this response, if the text is a whole one, and the responses of the texts after it; none if the text breaks off
 abbrev pub whole_by : Option ClientAnswer → List ClientAnswer → List ClientAnswer
 whole_by None behind = []
 whole_by (Some a) behind = a ∷ behind

@@ -25,7 +25,7 @@ pub struct AnswerHead {
     pub headers: Vec<Header>,
 }
 
-/// Why `read_answer_head` can't read a head.
+/// The error of `read_answer_head`.
 #[derive(Clone, Copy, Debug, PartialEq, Eq, Error)]
 pub enum AnswerHeadFault {
     /// The bytes break a rule of the grammar, a value has a byte that isn't ASCII, or there are more than 64 headers.

@@ -104,8 +104,8 @@ fn read_counted(alloc: Global, length: usize, rest: &mut Rest<'_>) -> Result<Vec
     }
 }
 
-/// Reads the body that follows a head. The request's method and the head determine the body's extent. Fails with
-/// `Malformed` also if a body must follow and the head states neither chunks nor a valid length.
+/// Reads the body that follows a head. The request's method and the head determine the body's extent. Also fails with
+/// `Malformed` if a body must follow and the head states neither chunks nor a valid length.
 pub(crate) fn read_body(
     alloc: Global,
     method: &Method,

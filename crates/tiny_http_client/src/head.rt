@@ -15,7 +15,7 @@ use tiny_http_head::common::{HTTPVersion, Header, HeaderField, StatusCode};
 use tiny_http_text::bytes::{are_ascii, cut, has_no_blank, is};
 use tiny_http_text::copies::owned;
 
-/// Why a part of a response can't be read.
+/// The reason why a part of a response can't be read.
 #[derive(Clone, Copy, Drop)]
 pub(crate) enum Fault {
     /// The bytes end before the part does.
@@ -59,7 +59,8 @@ fn decimal_until(text: &[u8], c: u8, most: usize) -> Option<(usize, &[u8])>
     Some((number, after))
 }
 
-// Parses the version and the status of a status line (RFC 9112, section 4). Returns `None` if the text isn't one.
+// Parses the version and the status of a status line (RFC 9112, section 4). Returns `None` if the text isn't a status
+// line.
 fn parse_status_line(text: &[u8]) -> Option<(HTTPVersion, StatusCode)>
     requires { AreAscii text.now }
     ensures { option_map status_line_of result ≡ status_line_read text.now }
@@ -93,7 +94,7 @@ fn after_one_space(text: &[u8]) -> Option<&[u8]>
 }
 
 // Parses a field line, with exactly one space after the first colon (RFC 9112, section 5). Returns `None` if the text
-// isn't one. Fails only if the text is a field line and memory for its header is refused.
+// isn't a field line. Fails only if the text is a field line and memory for its header is refused.
 fn parse_field_line(alloc: Global, text: &[u8]) -> Result<Option<Header>, AllocError>
     requires { AreAscii text.now }
     ensures value { IfOk result (λ found. found ≡ field_line_read text.now) }

@@ -1,5 +1,5 @@
--- How a `Connection` represents a state of a conversation. The laws of `InShort` (`tiny_http_connection_laws`) can be
--- understood without this file.
+-- The representation of a state of a conversation by a `Connection`. The laws of `InShort`
+-- (`tiny_http_connection_laws`) can be understood without this file.
 use Rattle.std.specs.Prelude.{◌≡◌, ℕ, ◌+◌, Bool, true, false, not, ◌&&◌, List, [], ◌∷◌, Option, Some, None, is_some}
 use Rattle.std.specs.Prelude.{MatchBool, ⊤}
 use Rattle.std.specs.Option.{option_map}
@@ -89,8 +89,8 @@ response_context_of closes r =
       persistence = persistence_of r.framing.by_standard closes;
     }
 
--- What was done for a request, apart from its body and its response: the date on which it was handed out, the date of
--- its 100, if one was sent, whether a 100 is still owed, and whether a response asked to close the connection.
+-- The account of a request, apart from its body and its response: the date on which it was handed out, the date of its
+-- 100, if one was sent, whether a 100 is still owed, and whether a response asked to close the connection.
 pub record HandedOut : Type 0 where
   pub date : HttpDate
   pub continued : Option HttpDate
@@ -110,7 +110,7 @@ abbrev pub dropped : HandedOut → Request → ℕ → Bool → Slot
 dropped h r given end_reported =
     finished_as (closes_now r h.closes h.owed given end_reported) (open_slot h r given end_reported) ByServer
 
--- Whether this is the slot of a request that awaits its response, and the connection keeps `w` of it.
+-- Whether `s` is the slot of a request that awaits its response, and `w` is what the connection keeps of that request.
 pub record IsWaiting (s : Slot) (w : OpenRequest UnreadBody) : Type 0 where
   pub request : Request
   pub handed : HandedOut
@@ -134,8 +134,8 @@ pub record IsWaiting (s : Slot) (w : OpenRequest UnreadBody) : Type 0 where
   pub settled : is_streaming w.body ≡ false → (f : Feed)
       → remaining w.body (Some f) ≡ Some (taken_remaining (rest_of request given) f)
 
--- Whether this is the slot of a request, in some stage, whose body wasn't given up, and the connection keeps `body` of
--- it.
+-- Whether `s` is the slot of a request, in some stage, whose body wasn't given up, and `body` is the unread body that
+-- the connection keeps.
 pub record IsOpen (s : Slot) (body : UnreadBody) : Type 0 where
   pub request : Request
   pub handed : HandedOut
@@ -157,8 +157,8 @@ pub record IsRaw (s : Slot) : Type 0 where
   pub stage : s.stage ≡ Raw written false
   pub given_up : s.given_up ≡ true
 
--- Whether this is the slot of a number that was upgraded and whose stream is in use, and the connection keeps `body` of
--- it.
+-- Whether `s` is the slot of a number that was upgraded and whose stream is in use, and `body` is the unread body that
+-- the connection keeps.
 pub record IsUpgraded (s : Slot) (body : UnreadBody) : Type 0 where
   pub opened : IsOpen s body
   pub protocol : List ℕ
@@ -167,7 +167,7 @@ pub record IsUpgraded (s : Slot) (body : UnreadBody) : Type 0 where
   pub written : List ℕ
   pub stage : opened.stage ≡ Upgraded protocol response date written false
 
--- whether this is the slot of an unfinished number of which the connection keeps this `Unfinished`
+-- whether this is the slot of an unfinished number for which the connection keeps this `Unfinished`
 abbrev pub KeepsUnfinished : Slot → Unfinished → Type 0
 KeepsUnfinished s (still.Waiting w) = IsWaiting s w
 KeepsUnfinished s still.Raw = IsRaw s
@@ -184,7 +184,7 @@ pub record IsLeft (s : Slot) (text : List ℕ) : Type 0 where
   pub whole : is_slot_broken s ≡ false
   pub same : segment s ≡ text
 
--- whether this is the slot of a number that has this mark and of which the connection keeps this `Unfinished`, if any
+-- whether this is the slot of a number that has this mark and for which the connection keeps this `Unfinished`, if any
 abbrev pub IsKept : Slot → Mark → Option Unfinished → Type 0
 IsKept s Open (Some u) = KeepsUnfinished s u
 IsKept s (Left text) None = IsLeft s text
@@ -219,7 +219,7 @@ AreSettled [] = ⊤
 AreSettled (u ∷ []) = ⊤
 AreSettled (u ∷ v ∷ us) = IsSettled u × AreSettled (v ∷ us)
 
--- the input after this body, or all of it without a body
+-- the input after this body, or the whole input if there is no body
 abbrev pub behind_body : Option UnreadBody → Option Feed → Option Feed
 behind_body None feed = feed
 behind_body (Some b) feed = option_map (λ (r : Remaining). r.behind) (remaining b feed)
@@ -232,7 +232,7 @@ rest_in given (Refuses refusal manner no_body last) = whole_feed []
 abbrev pub slot_rest : Slot → Feed
 slot_rest s = rest_in s.given s.item
 
--- whether the input gives, for the body that is kept of a number, what is left of the body of its slot; always true
+-- whether the input gives, for the body that is kept for a number, what is left of the body of its slot; always true
 -- without a body or a slot
 abbrev pub GivesRest : Option UnreadBody → Option Slot → Option Feed → Type 0
 GivesRest None s feed = ⊤
@@ -244,7 +244,7 @@ abbrev pub behind_item : Item → Feed
 behind_item (Asks r) = r.behind
 behind_item (Refuses refusal manner no_body last) = whole_feed []
 
--- whether the input gives, after the body that is kept of the last number, what follows the body of its slot; always
+-- whether the input gives, after the body that is kept for the last number, what follows the body of its slot; always
 -- true without a body or a slot
 abbrev pub FollowsLast : Option UnreadBody → Option Slot → Option Feed → Type 0
 FollowsLast None s feed = ⊤
@@ -292,7 +292,7 @@ abbrev pub PlaceIn : Feed → Profile → Bool → Option Feed → List Item →
 PlaceIn client p past feed rest =
     PlaceAt p past feed rest × (past ≡ false → BeginsBehindAt p feed rest → BeginsMore p client)
 
--- Where the next head is read, while the requests haven't ended: after the last body. No further head is read after the
+-- The place of the next head, while the requests haven't ended: after the last body. No further head is read after the
 -- last head, or after a chunked body that was given up before its end was reported. The input state says whether the
 -- position is within the last body.
 pub record NextHead (client : Feed) (k : Kept) (last : Option Slot) (rest : List Item) : Type 0 where
@@ -302,8 +302,8 @@ pub record NextHead (client : Feed) (k : Kept) (last : Option Slot) (rest : List
   pub place : last_was_abandoned last ≡ false
       → PlaceIn client k.profile (is_past_last k.input_state) (behind_body (last_body k.requests) k.feed) rest
 
--- How the input relates to the bodies of these slots and to the rest of the pipeline, at some position in the client's
--- feed.
+-- Whether the input, at some position in the client's feed, matches the bodies of these slots and the rest of the
+-- pipeline.
 pub record InputMatches (client : Feed) (k : Kept) (slots : List Slot) (rest : List Item) : Type 0 where
   pub settled : AreSettled k.requests
   pub gives : GivesRest (last_body k.requests) (last_slot slots) k.feed

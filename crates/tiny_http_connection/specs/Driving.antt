@@ -121,8 +121,8 @@ abbrev pub input_state_past : InputState → List Item → InputState
 input_state_past input_state [] = input_state
 input_state_past input_state (item ∷ items) = at.Head
 
--- WHY THE REQUESTS END at the source's position: the last request was read, or no request follows in the bytes to come,
--- after refused heads that are passed over.
+-- WHETHER THE REQUESTS END at the source's position for this reason: the last request was read, or no request follows
+-- in the bytes to come, after refused heads that are passed over.
 abbrev pub EndsRequestsAt : Profile → InputState → Option Feed → EndOfRequests → Type 0
 EndsRequestsAt p at.Last feed why = why ≡ because.LastRequest
 EndsRequestsAt p input_state feed why =
@@ -166,8 +166,8 @@ AskEnds old new Memory =
     × (IsAtEnd old.source → ⊥)
 AskEnds old new _ = ⊥
 
--- why the requests end once a request is finished or takes over the connection's stream; `true`: no head is read after
--- that request
+-- why the requests end, if they do, once a request is finished or takes over the connection's stream; `true`: no head
+-- is read after that request
 abbrev pub ends_behind : Bool → Option EndOfRequests → Option EndOfRequests
 ends_behind false end = end
 ends_behind true None = Some because.LastRequest
@@ -208,7 +208,7 @@ StepEnds (step.Upgrade k p r) old new reply = UpgradeEnds k old new reply
 StepEnds (step.Finish k) old new reply = new.end ≡ old.end
 StepEnds (step.Drop k) old new reply = EndsBehind (is_last_once_finished_at (slice_get old.requests k)) old new reply
 
--- whether the body that is kept of this number was given up
+-- whether the body that is kept for this number was given up
 abbrev pub GivesUpKept : {R W : Type 0} → ℕ → ConnectionState R W → ConnectionState R W → Type 0
 GivesUpKept k old new =
     (u : Unfinished)
@@ -242,7 +242,7 @@ LetsGoAnswered k closes old new =
     × GivesUpKept k old new
     × FinishesNumber k old.marks new.marks
 
--- the input state after the head of a request with this framing, of whose body this is kept
+-- the input state after the head of a request with this framing and this unread body
 abbrev pub after_head : Framing → UnreadBody → InputState
 after_head f body = if f.is_last then at.Last else if is_streaming body then at.Body else at.Head
 
@@ -268,14 +268,14 @@ HandsOutHead n p (Some f) message framing left =
     (place_after framing.is_last next)
     × ComesWith left behind.stop body next)
 
--- whether `w` is kept of a request with this head that was handed out on this date
+-- whether `w` is what is kept of a request with this head that was handed out on this date
 abbrev pub KeepsRequestOf : OpenRequest UnreadBody → Message → Framing → HttpDate → Type 0
 KeepsRequestOf w message framing date =
     (h : Head) × (head_message h ≡ message) × (head_framing h ≡ framing) × KeepsHead w h date
 
--- What an Ask leaves of the requests, the source and the output, depending on its reply. `Handed`: a request was added
--- after the refused heads, as its head in the client's bytes frames it, and the source is after that head. If no head
--- was refused, nothing is sent, and the source's stop is unchanged. `Memory` and `Ended`: only refused heads took
+-- The effect of an Ask on the requests, the source and the output, depending on its reply. `Handed`: a request was
+-- added after the refused heads, as its head in the client's bytes frames it, and the source is after that head. If no
+-- head was refused, nothing is sent, and the source's stop is unchanged. `Memory` and `Ended`: only refused heads took
 -- numbers; if the last request or the end of the source had been reached, `Ended` refuses none.
 abbrev pub AskLeaves : {R W : Type 0} → HttpDate → ConnectionState R W → ConnectionState R W → ReplyValue → Type 0
 AskLeaves now old new (Handed k message framing) =
@@ -296,8 +296,8 @@ AskLeaves now old new Ended =
 AskLeaves now old new NotYet = Unit {0}
 AskLeaves now old new _ = ⊥
 
--- What a read leaves of the source, if the request's body was `was` before it and is `body` after it. If the body is
--- read from the source, what is left of the body determines the input state; else the source is unchanged.
+-- The effect of a read on the source, if the request's body was `was` before the read and is `body` after it. If the
+-- body is read from the source, what is left of the body determines the input state; else the source is unchanged.
 abbrev pub InputStateAfter : {R : Type 0} → UnreadBody → UnreadBody → SourceState R → SourceState R → Type 0
 InputStateAfter was body old new =
     MatchBool (is_streaming was) (new.input_state ≡ body_input_state body old.input_state) (new ≡ old)
@@ -310,8 +310,9 @@ ContinueIsSent k now w old new =
     × SendsQuietlyOn old.outlet new.outlet (own_text_by 100 (printing_in w.response_context now))
     × HasSentAll new.outlet
 
--- What happens to the 100 of this number, depending on the reply. `Done`: it was sent, or none was owed and nothing
--- changed. `NotYet`: it is owed and waits for its turn. `NoSuch`: no request of this number awaits its response.
+-- The effect of an AsReader on the 100 of this number, depending on the reply. `Done`: it was sent, or none was owed
+-- and nothing changed. `NotYet`: it is owed and waits for its turn. `NoSuch`: no request of this number awaits its
+-- response.
 abbrev pub SendsContinue : {R W : Type 0} → ℕ → HttpDate → ConnectionState R W → ConnectionState R W → ReplyValue
     → Type 0
 SendsContinue k now old new Done =
@@ -325,14 +326,14 @@ SendsContinue k now old new _ = ⊥
 abbrev pub LeavesAllButOutlet : {R W : Type 0} → ConnectionState R W → ConnectionState R W → Type 0
 LeavesAllButOutlet old new = (new.requests ≡ old.requests) × (new.marks ≡ old.marks) × (new.source ≡ old.source)
 
--- What a Respond leaves, depending on the reply. `Refused`: the response was refused, and the request dropped. `Done`
+-- The effect of a Respond, depending on the reply. `Refused`: the response was refused, and the request dropped. `Done`
 -- or `Fault`: the request was answered. Any other reply is unrestricted here.
 abbrev pub AnswerLeaves : {R W : Type 0} → ℕ → Answer → ConnectionState R W → ConnectionState R W → ReplyValue → Type 0
 AnswerLeaves k a old new Refused = LetsGo k old new × (refuses_at a.status (slice_get old.requests k) ≡ true)
 AnswerLeaves k a old new reply =
     IsAnswered reply → LetsGoAnswered k a.closes old new × (refuses_at a.status (slice_get old.requests k) ≡ false)
 
--- What an Upgrade to this protocol with this status code leaves, depending on the reply. `Done`: the request was
+-- The effect of an Upgrade to this protocol with this status code, depending on the reply. `Done`: the request was
 -- upgraded, and its stream reads its body or, under Standard, all that follows. `Refused`: the upgrade was refused, and
 -- the request dropped. `NotYet` and `NoSuch` are unrestricted here, and no other reply is possible.
 abbrev pub UpgradeLeaves : {R W : Type 0} → ℕ → List ℕ → ℕ → ConnectionState R W → ConnectionState R W → ReplyValue
@@ -361,7 +362,7 @@ ClosesBody n (Given []) body = 0 < n → is_whole body ≡ true
 ClosesBody n (Fault kind) body = body ≡ Over (Faults kind)
 ClosesBody n _ body = ⊤
 
--- Whether a Read of n bytes gave the next bytes of the body that is kept of this number, as far as the reader states
+-- Whether a Read of n bytes gave the next bytes of the body that is kept for this number, as far as the reader states
 -- them. What is left of the body determines the source's input state.
 abbrev pub ReadsKept : {R W : Type 0} → ℕ → ℕ → ConnectionState R W → ConnectionState R W → ReplyValue → Type 0
 ReadsKept k n old new reply =
@@ -376,8 +377,8 @@ ReadsKept k n old new reply =
     × (0 < n → ReadsOn was (given_count reply) (nat_lt (given_count reply) n) body)
     × ClosesBody n reply body
 
--- What a Read of n bytes leaves of the requests and the source, depending on its reply. `Fault` and `Memory` come only
--- if n is at least 1.
+-- The effect of a Read of n bytes on the requests and the source, depending on its reply. `Fault` and `Memory` come
+-- only if n is at least 1.
 abbrev pub ReadLeaves : {R W : Type 0} → ℕ → ℕ → ConnectionState R W → ConnectionState R W → ReplyValue → Type 0
 ReadLeaves k n old new (Given bytes) =
     (is_readable (slice_get old.requests k) ≡ true) × (length bytes ≤ n) × ReadsKept k n old new (Given bytes)
@@ -387,8 +388,8 @@ ReadLeaves k n old new NoSuch = is_readable (slice_get old.requests k) ≡ false
 ReadLeaves k n old new Memory = (is_readable (slice_get old.requests k) ≡ true) × (0 < n)
 ReadLeaves k n old new _ = ⊥
 
--- What a step leaves of the requests, the source and the output. An AsReader sends the 100 that its request is owed. A
--- Read changes at most the body of its request, and the source if the body is read from the source. A Respond, a Drop
+-- The effect of a step on the requests, the source and the output. An AsReader sends the 100 that its request is owed.
+-- A Read changes at most the body of its request, and the source if the body is read from the source. A Respond, a Drop
 -- and a Finish that are done remove their request, and an IntoWriter gives up the body. An Upgrade keeps the body for
 -- its stream. A Write and a Flush change only the output.
 abbrev pub StepLeaves : {R W : Type 0} → Step (Option Feed) → HttpDate → ConnectionState R W → ConnectionState R W
@@ -466,7 +467,7 @@ RespondReports old new now k r reply =
     ⊎ ((kind : ErrorKind) × (reply ≡ fault_reply kind) × ReportsFault old new now (step.Respond k r) kind)
     ⊎ ((begins_left (drop (k + 1) old.marks) ≡ true) × AnswerIsSentOn old new now k r)
 
--- HOW MANY ENDS AND FAULTS OF THE CLIENT A READ MEETS on this number: none, or at most as many as `ends_met` allows for
+-- THE ENDS AND FAULTS OF THE CLIENT that a Read on this number meets: none, or at most as many as `ends_met` allows for
 -- the bytes that it gave and the body that it left.
 abbrev pub ReadMeets : {R W : Type 0} → (R → ℕ) → ConnectionState R W → ConnectionState R W → ℕ → ReplyValue → Type 0
 ReadMeets stop_count old new k reply =
@@ -479,7 +480,7 @@ ReadMeets stop_count old new k reply =
     × (new.requests ≡ slice_set old.requests k (Some (number_with_body body u)))
     × (stop_count new.source.reader ≤ stop_count old.source.reader + ends_met was (given_count reply) body))
 
--- how many ends and faults of the client a step meets: a Read as `ReadMeets` says; the other steps are unrestricted
+-- the ends and faults of the client that a step meets: for a Read as `ReadMeets` says; the other steps are unrestricted
 abbrev pub StepMeets : {R W : Type 0} → (R → ℕ) → Step (Option Feed) → ConnectionState R W → ConnectionState R W
     → ReplyValue → Type 0
 StepMeets stop_count (step.Read k n) old new reply = ReadMeets stop_count old new k reply
@@ -494,7 +495,7 @@ StepReports old new now (step.Flush k) reply = ReportsOfWriter (output_of old.ou
 StepReports old new now (step.Respond k r) reply = RespondReports old new now k r reply
 StepReports old new now _ reply = Unit {0}
 
--- WHAT ONE STEP DOES on a date, with its reply, whatever the reader, the writer and the data state.
+-- THE EFFECTS OF ONE STEP on a date, with its reply, whatever the reader, the writer and the data state.
 pub record MakesStep {R W : Type 0} (old new : ConnectionState R W) (now : HttpDate) (step : Step (Option Feed))
     (reply : ReplyValue) : Type 0 where
   -- the profile is unchanged, and a step that was not done changes nothing

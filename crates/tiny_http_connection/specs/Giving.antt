@@ -1,4 +1,4 @@
--- What a Read returns of the bytes to come.
+-- The bytes that a Read returns.
 use Rattle.std.specs.Prelude.{◌≡◌, ◌⊎◌, ⊤, ℕ, [], take, drop, Option, Some, None}
 use Rattle.tiny_http_io.specs.declared.device.Stop.TheVariants.{Fault as Faults}
 use Rattle.tiny_http_io.specs.Device.{Feed, whole_feed}
@@ -6,8 +6,8 @@ use Rattle.tiny_http_body.specs.Body.{Remaining}
 use Rattle.tiny_http_connection.specs.Steps.{ReplyValue, Given, Fault}
 
 -- Whether a Read of n bytes may have this reply, where `left` and `next` are what is left of the body before and after
--- it. `Given`: the next n bytes, or all if fewer are left, and none only if n is 0 or only the end is left. `Fault`:
--- only the fault is left. Any other reply takes nothing.
+-- the Read. `Given`: the next n bytes, or all if fewer are left, and none only if n is 0 or only the end is left.
+-- `Fault`: only the fault is left. Any other reply takes nothing.
 abbrev pub ReadsNext : ℕ → Feed → ReplyValue → Feed → Type 0
 ReadsNext n left (Given bytes) next =
     (bytes ≡ take n left.bytes)

@@ -25,10 +25,10 @@ use Rattle.tiny_http_connection.specs.Steps.{StepValue, Upgrade, Write, number_o
 abbrev pub fault_reply : ErrorKind → ReplyValue
 fault_reply kind = if is_closed_client kind then Done else Fault kind
 
--- How a step uses the writer. `Unused`: not at all. `Unreported`: it writes and flushes its texts, and no reply reports
--- a fault. `Reported`: it writes `own`, and flushes if `flushes` holds; `report` makes the reply for a fault of the
--- writer, or for `broken`, the fault of the response's data, if any. If both the writer and the data fail, either fault
--- may be reported.
+-- The use of the writer by a step. `Unused`: not at all. `Unreported`: it writes and flushes its texts, and no reply
+-- reports a fault. `Reported`: it writes `own`, and flushes if `flushes` holds; `report` makes the reply for a fault of
+-- the writer, or for `broken`, the fault of the response's data, if any. If both the writer and the data fail, either
+-- fault may be reported.
 pub data WriterUse : Type 0 where
   Unused : WriterUse
   Unreported : WriterUse
@@ -42,7 +42,7 @@ pub record Outcome : Type 0 where
   pub asking_ended : Bool
   pub writer : WriterUse
 
--- How far a connection has come in its pipeline: the slots of the numbers so far, the items after them, and whether
+-- The progress of a connection in its pipeline: the slots of the numbers so far, the items after them, and whether
 -- asking has ended.
 pub record Reached : Type 0 where
   pub slots : List Slot
@@ -162,15 +162,15 @@ use_in_turn false = Unused
 abbrev pub ends_asking : Bool → Outcome → Outcome
 ends_asking ends o = record o { asking_ended = o.asking_ended || ends }
 
--- Whether no head is read after a request that takes over the connection's stream now. So it is if the next head had to
--- wait for the response to this request (`holds_next_head`), or if no head would be read after the request even if it
--- were answered now.
+-- Whether no head is read after a request that takes over the connection's stream now: the next head had to wait for
+-- the response to this request (`holds_next_head`), or no head would be read after the request even if it were answered
+-- now.
 abbrev pub ends_with_stream : Request → Bool → ℕ → Bool → Bool
 ends_with_stream r owed given end_reported = holds_next_head r || ends_when_finished r owed given end_reported
 
--- What has been reached, given a response that is about to be made. If that response asks to close the connection
--- (`closes`), no further head is read, and the response to the last number reached says that the connection closes,
--- unless that response has already been made. Otherwise nothing changes.
+-- The progress of a connection, given a response that is about to be made. If that response asks to close the
+-- connection (`closes`), no further head is read, and the response to the last number reached says that the connection
+-- closes, unless that response has already been made. Otherwise nothing changes.
 abbrev pub asked_to_close : Bool → Reached → Reached
 asked_to_close closes old =
     if closes then record old { slots = with_last closing_slot old.slots; asking_ended = true } else old

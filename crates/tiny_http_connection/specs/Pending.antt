@@ -1,5 +1,5 @@
--- What is kept of the numbers that aren't finished, and what is sent when their turn comes. The laws of `InShort`
--- (`tiny_http_connection_laws`) can be understood without this file.
+-- The state of the numbers that aren't finished, and the texts that are sent when their turn comes. The laws of
+-- `InShort` (`tiny_http_connection_laws`) can be understood without this file.
 use Rattle.std.specs.Prelude.{◌≡◌, ◌==◌, ◌<◌, ◌^◌, ◌+◌, ℕ, Bool, true, false, not, ◌||◌, List, [], ◌∷◌, ◌++◌, length}
 use Rattle.std.specs.Prelude.{Option, Some, None, MatchBool, is_err, slice_get, if◌then◌else◌}
 use Rattle.tiny_http_io.specs.Device.{Sink}
@@ -48,9 +48,9 @@ begins_left (Held ∷ marks) = false
 begins_left (Left text ∷ marks) = true
 begins_left (Finished ∷ marks) = false
 
--- whether the texts of the numbers at the front that are marked `Left` were sent, unless the output had ended, and
--- flushed; if there is no such number, whether nothing was done; `was` and `ended`: whether the output had ended
--- before, and has ended afterwards
+-- Whether the texts of the numbers at the front that are marked `Left` were sent, unless the output had ended, and
+-- flushed. If there is no such number, nothing was done. `was` and `ended`: whether the output had ended before, and
+-- has ended afterwards.
 abbrev pub SendsLeft : List Mark → Bool → Sink → Sink → Bool → Type 0
 SendsLeft rest was old new ended =
     MatchBool (begins_left rest) (SendsUnlessEnded was old new ended (left_text rest)
@@ -79,7 +79,7 @@ waiting_response_context (Some (Some (still.Upgraded b))) = None
 waiting_response_context (Some None) = None
 waiting_response_context None = None
 
--- whether number `number` awaits its response, and `w` is kept of it
+-- whether number `number` awaits its response, and `w` is what is kept of its request
 abbrev pub WaitsAt : List (Option Unfinished) → ℕ → OpenRequest UnreadBody → Type 0
 WaitsAt requests number w = slice_get requests number ≡ Some (Some (still.Waiting w))
 
@@ -163,7 +163,7 @@ last_holds_next_head [] = false
 last_holds_next_head (u ∷ []) = holds_next_head_at (Some u)
 last_holds_next_head (u ∷ v ∷ us) = last_holds_next_head (v ∷ us)
 
--- the body that is kept of a number, if any
+-- the body that is kept for a number, if any
 abbrev pub kept_body : Option Unfinished → Option UnreadBody
 kept_body None = None
 kept_body (Some (still.Waiting w)) = Some w.body
@@ -181,7 +181,7 @@ number_with_body b (still.Waiting w) = still.Waiting (record w { body = b })
 number_with_body b still.Raw = still.Raw
 number_with_body b (still.Upgraded c) = still.Upgraded b
 
--- the body that is kept of the last of these numbers, if any
+-- the body that is kept for the last of these numbers, if any
 abbrev pub last_body : List (Option Unfinished) → Option UnreadBody
 last_body [] = None
 last_body (u ∷ []) = kept_body u
@@ -211,8 +211,8 @@ pub record RefusesHead {W : Type 0} (p : Pending) (o : OutletState W) (text : Li
 abbrev pub WritesHeld : {W : Type 0} → HeldNumber → OutletState W → List ℕ → HeldNumber → OutletState W → Type 0
 WritesHeld k o text l u = (l ≡ k) × SendsQuietlyOn o u text × FailsOnce o u × KeepsSent o u
 
--- What follows a held number once it is finished: the next number, for which this text had been left and which is now
--- held, or, for `None`, no such number.
+-- The successor of a held number once that number is finished: the next number, for which this text had been left and
+-- which is now held, or, for `None`, no such number.
 abbrev pub NextHeld : HeldNumber → Finishing (Unit {0}) → Option (Vec ℕ) → HeldNumber → Type 0
 NextHeld k r None l = ((u : Unit {0}) (next : Vec ℕ) → r ≡ Go u next → ⊥)
 NextHeld k r (Some text) l = ((u : Unit {0}) × (r ≡ Go u text)) × (l.0 ≡ k.0 + 1) × (l.0 < 2 ^ 64)

@@ -1,6 +1,6 @@
--- What the outcome of a step depends on: which number is the last, what is left of its body, and how a request ends the
--- connection. The laws of `InShort` (`tiny_http_connection_laws`) can be understood without this file: it defines when
--- a step is refused, has to wait, or ends the requests.
+-- The facts on which the outcome of a step depends: which number is the last, what is left of its body, and how a
+-- request ends the connection. The laws of `InShort` (`tiny_http_connection_laws`) can be understood without this file:
+-- it defines when a step is refused, has to wait, or ends the requests.
 use Rattle.std.specs.Prelude.{ℕ, ◌-◌, nat_lt, Bool, true, false, not, ◌&&◌, ◌||◌, List, [], ◌∷◌, ◌++◌, take, drop}
 use Rattle.std.specs.Prelude.{Option, Some, None, is_err, if◌then◌else◌}
 use Rattle.std.specs.List.{last_or, list_all}
@@ -101,9 +101,9 @@ is_unanswered _ = false
 abbrev pub holds_next_head : Request → Bool
 holds_next_head r = r.framing.asks_upgrade && not r.framing.is_last
 
--- What is left of the body of a request that is finished now. `Endless`: its end isn't known, since chunks were not
--- read to their end, or a read met a cut or broken body. `Long`: more of its content length is left than is skipped.
--- `Skipped`: in any other case.
+-- The rest of the body of a request that is finished now. `Endless`: its end isn't known, since chunks were not read to
+-- their end, or a read met a cut or broken body. `Long`: more of its content length is left than is skipped. `Skipped`:
+-- in any other case.
 abbrev pub remainder_of : Request → ℕ → Bool → Remainder
 remainder_of r given end_reported =
     if (is_chunked_form r.framing.form && not end_reported)

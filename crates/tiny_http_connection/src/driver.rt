@@ -41,10 +41,10 @@ use tiny_http_response::sending::reported;
 #[derive(Drop)]
 pub enum Step<D> {
     /// Reads the next request head and hands out its request, or ends the requests (`Ended`). The reply is `NotYet`
-    /// while the body of the last request is read from the input, and was neither read to its end or fault nor given
-    /// up. Under `Standard` it is also `NotYet` while the last request asks for an upgrade and awaits its response.
-    /// Neither applies if that request is the connection's last. No head follows a chunked body that was given up
-    /// before its end was reported.
+    /// while the body of the last request is read from the input, and has been neither read to its end or fault nor
+    /// given up. Under `Standard` it is also `NotYet` while the last request asks for an upgrade and awaits its
+    /// response. Neither applies if that request is the connection's last. No head follows a chunked body that was
+    /// given up before its end was reported.
     Ask,
     /// Sends the 100 that is owed to the request of this number, in its turn. If none is owed, changes nothing.
     AsReader(u64),
@@ -269,21 +269,21 @@ impl<R: ReadDevice, W: WriteDevice> Connection<R, W> {
     /// Reads the next request head, hands out its request, and returns `Handed` with the request's number. `now` dates
     /// the responses to refused heads, and the 500 of this request if it is dropped.
     ///
-    /// Returns `NotYet` while the body of the last request is read from the input, and was neither read to its end or
-    /// fault nor given up. Also returns `NotYet` while the last request awaits its response and its head says
+    /// Returns `NotYet` while the body of the last request is read from the input, and has been neither read to its end
+    /// or fault nor given up. Also returns `NotYet` while the last request awaits its response and its head says
     /// `asks_upgrade`: what follows may be bytes of the other protocol (RFC 9110, section 7.8). Neither applies if that
     /// request is the connection's last.
     ///
-    /// Returns `Ended`, then and from then on, if the connection has no further request; `end_of_requests` returns why.
-    /// A refused head gets an error response under its own number, in its turn, and ends the requests, with one
+    /// Returns `Ended` if the connection has no further request, and so does each later call. `end_of_requests` returns
+    /// why. A refused head gets an error response under its own number, in its turn, and ends the requests, with one
     /// exception: after a head that is refused with 505 the same call reads the next head, unless that head names an
     /// upgrade, its body is chunked, or the profile is `Standard`.
     ///
     /// Returns `Memory` if memory is refused, which ends the requests too. The requests also end after a response that
     /// was made with `with_close`, and after a chunked body that was given up before its end was reported. Under
-    /// `Standard` they also end after one that asked for an upgrade, once it is upgraded or its raw writer is taken,
-    /// and after one that is answered or dropped, or whose raw writer is taken, while its 100 is owed or more than
-    /// 65,536 bytes of a body with a `Content-Length` are unread.
+    /// `Standard` they also end after a request that asked for an upgrade, once it is upgraded or its raw writer is
+    /// taken, and after a request that is answered or dropped, or whose raw writer is taken, while its 100 is owed or
+    /// more than 65,536 bytes of a body with a `Content-Length` are unread.
     ///
     /// The call waits for the client only until the head and a body of up to 1024 bytes have come, or only the head if
     /// the request expects a 100. Before that it waits for the rest of a body with a content length that was given up
@@ -364,7 +364,8 @@ impl<R: ReadDevice, W: WriteDevice> Connection<R, W> {
         ensures stop_count { R.stop_count self.new.source.reader ≤ R.stop_count self.old.source.reader + 1 }
         ensures lazy { (bytes : List ℕ) → seen result ≡ Given bytes → length bytes ≡ count
             → R.stop_count self.new.source.reader ≤ R.stop_count self.old.source.reader }
-        // A read meets an end or fault of the reader only if the body is then cut or broken, or has no end of its own.
+        // A read meets an end or fault of the reader only if the body is then cut or broken, or is the whole rest of
+        // the input.
         ensures whole { ReadMeets R.stop_count self.old self.new number (seen result) }
     {
         if !self.pending.is_readable(number) {
@@ -392,10 +393,10 @@ impl<R: ReadDevice, W: WriteDevice> Connection<R, W> {
     /// await its response. The response is an empty 500, dated when the request was handed out. Under `Standard` it
     /// says `Connection: close` if a response from `respond` would.
     ///
-    /// The 500 is sent now, or by the call that finishes the last of the unfinished numbers before this one. The reply
-    /// is never `NotYet`, and never reports a fault of the writer. The call takes no memory. Under `Standard` no
-    /// request follows one that is dropped or answered while its 100 is owed, or while more than 65,536 bytes of a body
-    /// with a `Content-Length` are unread.
+    /// The 500 is sent by this call, or by the call that finishes the last of the unfinished numbers before this one.
+    /// The reply is never `NotYet`, and never reports a fault of the writer. The call takes no memory. Under `Standard`
+    /// no request follows one that is dropped or answered while its 100 is owed, or while more than 65,536 bytes of a
+    /// body with a `Content-Length` are unread.
     #[inline(never)]
     pub fn drop_request(&mut self, number: u64) -> Reply
         ensures step { (date : Date) → TakesStep self.old self.new date (Step.Drop number) (seen result) }
@@ -482,8 +483,8 @@ impl<R: ReadDevice, W: WriteDevice> Connection<R, W> {
     /// returns `Done`, in the number's turn or before it. Returns `NoSuch` if the number doesn't await its response.
     ///
     /// The call sends nothing: after a 100 that was already sent, the client gets only the bytes that `write` writes. A
-    /// 100 that is owed isn't sent any more. Under `Standard` no request follows one whose head says `asks_upgrade`,
-    /// whose 100 is owed, or that has a body with a `Content-Length` of which more than 65,536 bytes are unread.
+    /// 100 that is owed is never sent. Under `Standard` no request follows one whose head says `asks_upgrade`, whose
+    /// 100 is owed, or that has a body with a `Content-Length` of which more than 65,536 bytes are unread.
     #[inline(never)]
     pub fn into_writer(&mut self, number: u64) -> Reply
         ensures step { (date : Date) → TakesStep self.old self.new date (Step.IntoWriter number) (seen result) }
@@ -596,8 +597,8 @@ impl<R: ReadDevice, W: WriteDevice> Connection<R, W> {
         Reply::Done
     }
 
-    /// Makes the call that a step stands for, with the step's date.
-    // The calls aren't inlined here: each step would zero the stack space of all of them.
+    /// Makes the call that a step names, with the step's date.
+    // The calls aren't inlined here: otherwise each step would zero the stack space of all of them.
     pub fn step<D: ReadDevice + Drop>(&mut self, alloc: Global, timed: Timed<D>) -> Reply
         ensures step { TakesStep self.old self.new timed.now (stated_step D.feed timed.step) (seen result) }
         // Bounds the number of ends and faults of the client's reader that a Read meets. The other steps are

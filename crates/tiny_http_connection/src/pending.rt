@@ -1,4 +1,4 @@
-//! What is kept of the requests that aren't finished, and the texts that wait for their turn.
+//! The requests of a connection that aren't finished, and the texts that wait for their turn.
 ghost use Rattle.std.specs.Prelude.{◌≡◌, ◌↔◌, ◌≤◌, ◌<◌, ◌^◌, ◌+◌, ◌++◌, ◌∷◌, true, false, List, [], length, Some};
 ghost use Rattle.std.specs.Prelude.{None, IfOk, IfSome, IfNone, is_some, OnOk, OnErr, IsTrue, ◌==◌, slice_get};
 ghost use Rattle.std.specs.Prelude.{slice_set};
@@ -38,18 +38,18 @@ use tiny_http_turns::by_number::ByNumber;
 use tiny_http_turns::passing::{HeldTurn, pass_on};
 use tiny_http_turns::turns::{Finishing, Leaving, Turns, TurnsError};
 
-/// What is kept of a request that isn't finished.
+/// The state of a request that isn't finished.
 #[derive(Drop)]
 pub enum Unfinished {
-    /// It awaits its response.
+    /// The request awaits its response.
     Waiting(OpenRequest<UnreadBody>),
-    /// Its raw writer is in use. Its body was given up.
+    /// The raw writer of the request is in use. The body has been given up.
     Raw,
-    /// It was upgraded. Its stream reads from this body.
+    /// The request was upgraded. The stream of the upgrade reads from this body.
     Upgraded(UnreadBody),
 }
 
-/// The numbers of a connection: their turns, and what is kept of those that aren't finished.
+/// The numbers of a connection: their turns, and the state of each request that isn't finished.
 #[derive(Drop)]
 pub(crate) struct Pending {
     pub turns: Turns<()>,
@@ -275,7 +275,7 @@ impl Pending {
         }
     }
 
-    /// Reads the body that is kept of this number until the buffer is full or no more bytes follow, and returns the
+    /// Reads the body that is kept for this number until the buffer is full or no more bytes follow, and returns the
     /// count of bytes read, which is 0 if no body is kept. Fails with the body's fault if it comes before any byte.
     pub fn fill<R: ReadDevice>(
         &mut self,
@@ -357,8 +357,8 @@ impl Pending {
         self.turns.take(number).is_some()
     }
 
-    /// Finishes a held number and the numbers directly after it for which texts were left, and sends these texts. No
-    /// reply reports a fault of the writer in these texts.
+    /// Finishes a held number and the numbers directly after it for which texts were left, and sends these texts. A
+    /// fault of the writer in these texts isn't reported.
     pub fn pass<W: WriteDevice>(&mut self, outlet: &mut Outlet<W>, number: u64)
         ensures passes { (front rest : List Mark)
             → self.old.turns.marks ≡ front ++ (Held ∷ rest)
@@ -384,7 +384,7 @@ impl Pending {
 
     /// Leaves a text for an open number. If the number's turn has come, sends the text, finishes the number, and does
     /// the same for the numbers directly after it for which texts were left. Otherwise the text waits for the number's
-    /// turn. No reply reports a fault of the writer in these texts.
+    /// turn. A fault of the writer in these texts isn't reported.
     pub fn leave<W: WriteDevice>(&mut self, outlet: &mut Outlet<W>, number: u64, text: Vec<u8>)
         ensures leaves { (front rest : List Mark)
             → self.old.turns.marks ≡ front ++ (Open ∷ rest)

@@ -21,7 +21,8 @@ pub struct Record<R: ReadDevice, W: WriteDevice> {
     pub outlet: Outlet<W>,
 }
 
-/// Memory for the replies was refused: nothing was read or written. A run of no steps doesn't fail.
+/// An error of a run: memory for the replies was refused, and nothing was read or written. A run of no steps doesn't
+/// fail.
 #[derive(Drop)]
 pub struct RunError<R, W> {
     /// The reader, unchanged.
@@ -46,8 +47,8 @@ fn room_for(alloc: Global, count: usize) -> Result<Vec<Reply>, AllocError>
 /// Runs the steps on a connection under `Lenient`, with one reply per step. If the reader, the writer and the data
 /// state their bytes, the requests that the connection hands out are the first of those that the grammar finds in the
 /// client's bytes. The reads of each body give that body's bytes, and report its end only after them. The output is one
-/// segment for each request or refused head, in order, up to the first that isn't finished or that a fault cuts short;
-/// if the writer failed, it is a prefix of this.
+/// segment for each request or refused head, in order, up to the first that isn't finished or that a fault cuts short.
+/// If the writer failed, the output is a prefix of these segments.
 ///
 /// Fails if memory for the replies is refused.
 pub fn run<R: ReadDevice + Drop, W: WriteDevice + Drop, D: ReadDevice + Drop>(
@@ -70,8 +71,8 @@ pub fn run<R: ReadDevice + Drop, W: WriteDevice + Drop, D: ReadDevice + Drop>(
 /// Runs the steps on a connection under this profile, with one reply per step. If the reader, the writer and the data
 /// state their bytes, the requests that the connection hands out are the first of those that the grammar finds in the
 /// client's bytes. The reads of each body give that body's bytes, and report its end only after them. The output is one
-/// segment for each request or refused head, in order, up to the first that isn't finished or that a fault cuts short;
-/// if the writer failed, it is a prefix of this.
+/// segment for each request or refused head, in order, up to the first that isn't finished or that a fault cuts short.
+/// If the writer failed, the output is a prefix of these segments.
 ///
 /// Fails if memory for the replies is refused.
 pub fn run_with<R: ReadDevice + Drop, W: WriteDevice + Drop, D: ReadDevice + Drop>(

@@ -1,4 +1,4 @@
--- What was done for each number, as the steps and their replies say, and why the requests end.
+-- The account of each number, according to the steps and their replies, and why the requests end.
 use Rattle.std.specs.Prelude.{◌≡◌, ℕ, ◌⊎◌, ⊤, ◌==◌, Bool, true, false, not, ◌&&◌, ◌||◌, List, [], ◌∷◌, ◌++◌, Option}
 use Rattle.std.specs.Prelude.{Some, None, is_some, slice_get, if◌then◌else◌}
 use Rattle.httpdate.specs.declared.date.HttpDate.{HttpDate}
@@ -22,7 +22,7 @@ pub data Condition : Type 0 where
   Writes : Condition
   Finished : Condition
 
--- What was done for a number: its condition; the step that answered it with a response, if one did; the bytes that were
+-- The account of a number: its condition; the step that answered it with a response, if one did; the bytes that were
 -- written under it; and the date on which its 100 was first asked for, if it was.
 pub record Account : Type 0 where
   pub condition : Condition

@@ -1,4 +1,4 @@
--- What a client reads of a connection's output.
+-- The responses that a client reads from a connection's output.
 use Rattle.std.specs.Prelude.{◌≡◌, ℕ, ◌<◌, ◌≤◌, ◌^◌, Bool, true, false, List, [], ◌∷◌, ◌++◌, map, Option, Some, None}
 use Rattle.std.specs.Prelude.{option_map, if◌then◌else◌, codes, ⊤}
 use Rattle.std.specs.List.{AllByRecursion, list_all}
@@ -38,7 +38,7 @@ abbrev pub offer_headers : Option (List ℕ) → List Header
 offer_headers None = []
 offer_headers (Some protocols) = upgrade_header protocols ∷ []
 
--- The headers of a response's own as they are printed: unchanged; or, under Standard, as `put_safe_headers`
+-- The response's own headers as they are printed: unchanged; or, under Standard, as `put_safe_headers`
 -- (`tiny_http_response`) writes them, after a header with the protocols that the response offers, if any.
 abbrev pub headers_printed : Bool → Answer → List Header
 headers_printed false a = a.headers
@@ -78,12 +78,12 @@ IsReadableStage by_standard (Upgraded protocol response date written closed) = �
 abbrev pub CanBeReadAt : Profile → Slot → Type 0
 CanBeReadAt p s = IsReadableStage (goes_by_standard p) s.stage
 
--- what a client reads of a response, or `None` if its text breaks off
+-- the response as a client reads it, or `None` if its text breaks off
 abbrev pub answer_if_whole : Ending → ResponseValue → Printing → Option ClientAnswer
 answer_if_whole Whole r p = Some (received_answer r.answer r.content p)
 answer_if_whole (Broken kind) r p = None
 
--- what a client reads of the response that answers this slot's number, in this stage; `None` without a whole response
+-- the response that a client reads for this slot's number, in this stage; `None` without a whole response
 abbrev pub stage_answer : Slot → Stage → Option ClientAnswer
 stage_answer s Unanswered = None
 stage_answer s (Answered response date found) =
@@ -94,7 +94,7 @@ stage_answer s ByServer =
 stage_answer s (Raw written closed) = None
 stage_answer s (Upgraded protocol response date written closed) = None
 
--- the text of a number, with what a client is to read of it
+-- the text of a number, with the response that a client is to read from it
 abbrev pub sent_text : Slot → SentText
 sent_text s = record { method = counts_as s.item; text = segment s; answer = stage_answer s s.stage }
 

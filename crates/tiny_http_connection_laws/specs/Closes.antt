@@ -1,4 +1,4 @@
--- Whether a response says that its connection closes, and what a client reads of that.
+-- Whether a response says that its connection closes, and whether a client reads that.
 use Rattle.std.specs.Prelude.{◌≡◌, Bool, false, ◌&&◌, List, [], ◌∷◌, ⊤, Some, codes}
 use Rattle.tiny_http_open_request.specs.Pipeline.{Item, Asks, Refuses}
 use Rattle.tiny_http_response.specs.Answer.{has_header}
@@ -35,14 +35,14 @@ NoneFollowsClose (s ∷ t ∷ slots) = (says_close s ≡ false) × NoneFollowsCl
 abbrev pub reads_close : ClientAnswer → Bool
 reads_close a = has_element (codes "Connection") (codes "close") a.head.headers
 
--- whether the response that answers a number has no Connection header of its own, as holds for each response of the
+-- whether the header list of the response that answers a number has no Connection, as holds for each response of the
 -- program
 abbrev pub OwnsNoConnection : Stage → Type 0
 OwnsNoConnection (Answered response date found) = has_header response.answer.headers (codes "Connection") ≡ false
 OwnsNoConnection _ = ⊤
 
--- WHAT A CLIENT READS under Standard in a number's response, if that is whole, can be read and has no Connection header
--- of its own: that the connection closes, exactly if the response says so.
+-- WHAT A CLIENT READS under Standard in a number's response, if that is whole, can be read and has no Connection in its
+-- header list: that the connection closes, exactly if the response says so.
 abbrev pub IsReadAsSaid : Slot → Type 0
 IsReadAsSaid s =
     CanBeReadAt Standard s

@@ -228,8 +228,8 @@ pub fn conversation_is_read()
         × ReadsAnswers (methods (sent_texts c.end.reached.slots)) out answers [] }
 {}
 
-/// The constant that the definitions of a request's end take from the code: the maximum number of bytes that are
-/// skipped of a body with a content length.
+/// The constant that the definitions of a request's end take from the code: the maximum number of unread bytes that are
+/// skipped in a body with a content length.
 pub fn size_of_what_is_skipped()
     ensures { MOST_SKIPPED ≡ 65536 }
 {}
@@ -239,8 +239,8 @@ pub fn size_of_what_is_skipped()
 ///
 /// A response says `close` if it is an error response to a refused head, or if that was decided when it was made:
 /// because of the request's head, a response that asked for it, a 100 that is owed, or what is left of the body. A
-/// client that can read the response reads `close` exactly if the response says it: as an element of `Connection`, a
-/// header that no response has of its own. So the client knows from the response that no further one follows.
+/// client that can read the response reads `close` exactly if the response says it: as an element of `Connection`,
+/// which the header list of a response never holds. So the client knows from the response that no further one follows.
 pub fn close_is_the_last()
     ensures none { (feed : Feed) (before after : Sink) (steps : List TimedValue) (replies : List ReplyValue)
         (held : List ℕ) (ended : Bool) (unread : Option Feed)

@@ -35,7 +35,7 @@ IsSameButForCase (a ∷ rest) (b ∷ more) = IsSameLetter a b × IsSameButForCas
 abbrev pub is_code : StatusCode → ℕ → Bool
 is_code code number = code.0 == number
 
--- how a code compares with this number
+-- the ordering of a code relative to this number
 abbrev pub code_order : StatusCode → ℕ → Ordering
 code_order code number = nat_cmp code.0 number
 
@@ -43,11 +43,12 @@ code_order code number = nat_cmp code.0 number
 abbrev pub is_version : HTTPVersion → ℕ × ℕ → Bool
 is_version v numbers = (v.0 == numbers.0) && (v.1 == numbers.1)
 
--- how a version compares with the one that has these numbers
+-- the ordering of a version relative to the one with these numbers
 abbrev pub version_order : HTTPVersion → ℕ × ℕ → Ordering
 version_order v numbers = ordering_then (nat_cmp v.0 numbers.0) (nat_cmp v.1 numbers.1)
 
--- whether a version is before another: its major number is less, or that is equal and the minor one is less
+-- whether version a is before version b: its major number is less, or the major numbers are equal and its minor number
+-- is less
 abbrev pub IsBefore : HTTPVersion → HTTPVersion → Type 0
 IsBefore a b = (a.0 < b.0) ⊎ ((a.0 ≡ b.0) × (a.1 < b.1))
 
@@ -91,7 +92,7 @@ HasItsOwnName Trace = ⊤
 HasItsOwnName Patch = ⊤
 HasItsOwnName (NonStandard name) = list_any (bytes_eq name) nine_names ≡ false
 
--- the reason phrases by code, as in the original crate (most from RFC 9110, section 15)
+-- the reason phrases by code, as in the Rust crate (most from RFC 9110, section 15)
 abbrev pub reason_phrases : List (ℕ × List ℕ)
 reason_phrases =
     (100, codes "Continue") ∷ (101, codes "Switching Protocols") ∷ (102, codes "Processing") ∷

@@ -20,7 +20,7 @@ abbrev pub IsOneLength : List (List ℕ) → Option ℕ → Type 0
 IsOneLength [] n = n ≡ None
 IsOneLength (length ∷ lengths) n = (m : ℕ) × (n ≡ Some m) × IsTrue (list_all (is_length m) (length ∷ lengths))
 
--- the parsed number, if there is one and all these elements are equal to it; otherwise an error
+-- the parsed number, if there is one and all these elements give it; otherwise an error
 abbrev pub all_are : Option ℕ → List (List ℕ) → Result (Option ℕ) InvalidLength
 all_are None lengths = Err (record {})
 all_are (Some n) lengths = if list_all (is_length n) lengths then Ok (Some n) else Err (record {})

@@ -27,8 +27,8 @@ three_parts [] = None
 abbrev pub request_line : List ℕ → Option (Method × List ℕ × HTTPVersion)
 request_line text = three_parts (parts space (trimmed is_blank text))
 
--- whether the text, once white space at its ends is removed, begins with these three parts; the third ends at the next
--- space or at the end of the text
+-- whether the text, without white space at its ends, begins with these three parts; the third ends at the next space or
+-- at the end of the text
 pub record HasParts (text method path version : List ℕ) : Type 0 where
   pub more : List (List ℕ)
   pub parts_are : parts space (trimmed is_blank text) ≡ method ∷ path ∷ version ∷ more

@@ -46,8 +46,8 @@ version_of text =
 abbrev pub is_too_new : HTTPVersion → Bool
 is_too_new v = nat_lt 1 v.0 || (v.0 == 1 && nat_lt 1 v.1)
 
--- whether the text is a request line as the original crate accepts it: once white space at its ends is removed, it is
--- method SP path SP version, optionally followed by another SP and further parts
+-- whether the text is a request line as the Rust crate accepts it: without white space at its ends, it is method SP
+-- path SP version, optionally followed by another SP and further parts
 pub record RequestLine (text : List ℕ) (method : Method) (path : List ℕ) (version : HTTPVersion) : Type 0 where
   pub core : List ℕ
   pub method_text : List ℕ

@@ -13,7 +13,7 @@ is_left_out SpaceAndTab = is_ows
 is_left_out WhiteSpace = is_blank
 
 -- the elements of a value: the texts between its commas, stripped at both ends of the bytes that satisfy `is_out`; an
--- empty value is one empty element
+-- empty value has one element, which is empty
 abbrev pub elements_in : (ℕ → Bool) → List ℕ → List (List ℕ)
 elements_in is_out value = map (trimmed is_out) (parts comma value)
 

@@ -11,7 +11,7 @@ use tiny_http_text::bytes;
 pub enum Blanks {
     /// Space and tab (RFC 9110, section 5.6.3).
     SpaceAndTab,
-    /// Bytes 9 to 13 and 32, which the original crate strips.
+    /// Bytes 9 to 13 and 32, which the Rust crate strips.
     WhiteSpace,
 }
 

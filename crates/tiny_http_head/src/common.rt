@@ -23,7 +23,7 @@ use tiny_http_text::bytes::{are_ascii, cut, has_no_blank, is, is_trimmed, trim};
 use tiny_http_text::copies::owned;
 use tiny_http_text::number::Numeral;
 
-/// The error of parsing a text, or of making a header from texts.
+/// The error returned when a text is parsed or a header is made from texts.
 #[derive(Clone, Copy, Debug, PartialEq, Eq, Error)]
 pub enum ParseError {
     /// The text doesn't match the grammar.
@@ -67,8 +67,8 @@ pub struct StatusCode(pub u16);
 impl StatusCode {
     ghost use Rattle.tiny_http_head.specs.Common.{reason_phrase, is_code, code_order};
 
-    /// Returns the reason phrase of the code, or `Unknown` for a code without one. The table is the original crate's;
-    /// most of it is from RFC 9110, section 15.
+    /// Returns the reason phrase of the code, or `Unknown` for a code without one. The table is the Rust crate's; most
+    /// of it is from RFC 9110, section 15.
     #[tactic(auto, unfolding(crate::specs::Common::reason_phrase))]
     pub fn default_reason_phrase(&self) -> &'static str
         ensures { result.now ≡ reason_phrase self.now.0 }
@@ -283,7 +283,8 @@ impl HeaderField {
     ghost use Rattle.tiny_http_text.specs.Ascii.{IsFirstNotAscii};
     ghost use Rattle.tiny_http_text.specs.FromAsciiError.{refused_bytes, bad_place};
 
-    /// Makes a name from any ASCII bytes. For other bytes it fails, and the error holds them.
+    /// Makes a name from any ASCII bytes, without copying them. Fails with an error that holds the bytes if one of them
+    /// is above 127.
     pub fn from_bytes(bytes: Vec<u8>) -> Result<HeaderField, FromAsciiError>
         ensures ok { IfOk result (λ f. f ≡ bytes.items) }
         ensures succeeds { IsOk result ↔ IsAscii bytes.items }
@@ -573,8 +574,8 @@ fn is_field_value(text: &[u8]) -> bool
     are_ascii(text) && is_header_value(text) && is_trimmed(text)
 }
 
-/// Returns the method that an ASCII text names: a method with a variant of its own if the text is its name in this
-/// exact case, and otherwise `NonStandard`. Fails if memory for a copy is refused.
+/// Returns the method that an ASCII text names: one of the nine named variants if the text is its name in this exact
+/// case, and otherwise `NonStandard`. Fails if memory for a copy is refused.
 pub fn method_of(alloc: Global, text: &[u8]) -> Result<Method, AllocError>
     requires { AreAscii text.now }
     ensures { IfOk result (λ m. m ≡ method_of text.now) }

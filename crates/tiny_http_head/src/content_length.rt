@@ -7,7 +7,8 @@ ghost use Rattle.tiny_http_head.specs.ContentLength.{one_length, lengths_after};
 use crate::blanks::Blanks;
 use crate::common::Header;
 
-/// The error of `one_length`: an element of `Content-Length` isn't a number below 2^64, or two elements differ.
+/// The error that `one_length` returns if an element of `Content-Length` isn't a number below 2^64 or two elements
+/// differ.
 #[derive(Clone, Copy, Debug, PartialEq, Eq)]
 pub struct InvalidLength;
 

@@ -73,7 +73,7 @@ pub fn parse_request_line(
 }
 
 /// Parses a `Content-Length` value: an optional `+`, then one or more decimal digits whose value is at most
-/// 18446744073709551615 (RFC 9110, section 8.6; the `+` as in the original crate). Returns `None` for any other value.
+/// 18446744073709551615 (RFC 9110, section 8.6; the `+` as in the Rust crate). Returns `None` for any other value.
 pub fn parse_content_length(value: &str) -> Option<usize>
     ensures { result ≡ length_in value.now }
 {

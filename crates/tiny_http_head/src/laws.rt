@@ -31,7 +31,7 @@ pub fn header_field_equality()
         → IsTrue (⟦<HeaderField as PartialEq>⟧.eq a c) }
 {}
 
-/// Methods are equal if, and only if, they are the same, and equal methods have the same hash input.
+/// Methods compare equal if, and only if, they are identical; equal methods have the same hash input.
 pub fn method_hash()
     ensures equality { (a b : AnyMethod) → IsTrue (⟦<Method as PartialEq>⟧.eq a b) ↔ (a ≡ b) }
     ensures hash { (a b : AnyMethod)

@@ -16,7 +16,7 @@ budget_room b = b.room
 abbrev pub budget_kind : Budget → ErrorKind
 budget_kind b = b.kind
 
--- what a `Budget` states as a writer
+-- the sink that a `Budget` states
 abbrev pub budget_sink : Budget → Sink
 budget_sink b =
     record

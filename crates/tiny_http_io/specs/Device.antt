@@ -1,4 +1,4 @@
--- What a device states of its bytes when it is read and when it is written.
+-- Feeds and sinks: the bytes that readers and writers state, and the effects of reads and writes on them.
 use Rattle.std.specs.Prelude.{◌≡◌, ℕ, ◌+◌, ◌-◌, ◌*◌, ◌^◌, ◌<◌, ◌≤◌, min, Bool, true, false, List, [], ◌++◌, length}
 use Rattle.std.specs.Prelude.{take, drop, Option, Some, None, Result, Ok, Err, IfOk, IfErr, OnErr, ⊤, ◌⊎◌}
 use Rattle.std.specs.Option.{option_map}
@@ -32,7 +32,7 @@ prepend bs feed = record { bytes = bs ++ feed.bytes; stop = feed.stop }
 abbrev pub prepended : List ℕ → Option Feed → Option Feed
 prepended bs feed = option_map (prepend bs) feed
 
--- whether the feed `new` is what is left of the feed `old` once some bytes at its front were taken, or neither feed is
+-- whether the feed `new` is the rest of the feed `old` once some bytes at its front have been taken, or neither feed is
 -- stated
 abbrev pub TakesFront : Option Feed → Option Feed → Type 0
 TakesFront old new = (gone : List ℕ) × (old ≡ prepended gone new)
@@ -95,9 +95,9 @@ ReadsFrom (Some f) (Some g) (Err e) buf = (f.bytes ≡ []) × (f.stop ≡ Fault 
 abbrev pub IsFront : List ℕ → List ℕ → Type 0
 IsFront front whole = (rest : List ℕ) × (whole ≡ front ++ rest)
 
--- What a writer states: the bytes that it took, if it states them; the prefix of those bytes that it has sent on, which
--- no failure takes back; how often it failed, and the kind of the last failure, if it states that; and whether it has
--- ended. An ended writer returns Ok and takes no more.
+-- The sink of a writer: the bytes that the writer took, if it states them; the prefix of those bytes that it has sent
+-- on, which no failure takes back; how often it failed, and the kind of the last failure, if it states that; and
+-- whether it has ended. A writer that has ended returns `Ok` and takes no more bytes.
 pub record Sink : Type 0 where
   pub taken : Option (List ℕ)
   pub sent : List ℕ
@@ -123,8 +123,8 @@ HoldsNothing s = IsAllKnown s.sent s.taken
 abbrev pub IsKnownFront : Option (List ℕ) → Option (List ℕ) → Type 0
 IsKnownFront known whole = (rest : List ℕ) × (whole ≡ append_known known rest)
 
--- the bytes that a writer has taken once it was given the bytes `bs`, if it had taken the bytes `known` before, and
--- given whether it had ended: a writer that has ended takes none
+-- the bytes that a writer has taken once it has been given the bytes `bs`: the bytes `known`, which it took before, and
+-- `bs`, or only `known` if it had ended (`true`)
 abbrev pub grown : Bool → Option (List ℕ) → List ℕ → Option (List ℕ)
 grown true known bs = known
 grown false known bs = append_known known bs
@@ -200,8 +200,8 @@ CopiedKnown None new from to n = ⊤
 CopiedKnown (Some f) None from to n = ⊥
 CopiedKnown (Some f) (Some g) from to n = Copied f g from to n
 
--- whether a copy broke off with an error of this kind: the reader stopped before it returned another byte, or the
--- writer failed within the next `left` bytes
+-- whether a copy broke off with an error of this kind, if the feed is stated: the reader stopped before it returned
+-- another byte, or the writer failed within the next `left` bytes
 abbrev pub CopyBreaks : Option Feed → Sink → Sink → ℕ → ErrorKind → Type 0
 CopyBreaks None from to left kind = ⊤
 CopyBreaks (Some f) from to left kind =
@@ -213,7 +213,7 @@ CopiesPiece f g from to left (Ok n) = (0 < n) × (n ≤ left) × CopiedKnown f g
 CopiesPiece f g from to left (Err e) = CopyBreaks f from to left (error_kind e)
 
 -- whether a call filled a buffer from the feed, wholly or with all bytes before an end, or failed with the feed's
--- fault, which came before the buffer was full
+-- fault, which came before the buffer was full; if the feed isn't stated, nothing is claimed
 abbrev pub Fills : Option Feed → Option Feed → Result ℕ Error → List ℕ → Type 0
 Fills None new r buf = ⊤
 Fills (Some f) None r buf = ⊥
@@ -225,7 +225,7 @@ Fills (Some f) (Some g) (Ok n) buf =
     × (n < length buf → (g.bytes ≡ []) × (f.stop ≡ End))
 Fills (Some f) (Some g) (Err e) buf = (length f.bytes < length buf) × (f.stop ≡ Fault (error_kind e))
 
--- whether the first n bytes of a buffer came from the feed
+-- whether the first n bytes of a buffer came from the feed, if the feed is stated
 abbrev pub FilledTo : Option Feed → Option Feed → ℕ → List ℕ → Type 0
 FilledTo None new n buf = ⊤
 FilledTo (Some f) None n buf = ⊥
@@ -237,7 +237,8 @@ abbrev pub Gathers : {T : Type 0} → (T → List ℕ) → Feed → Result T Err
 Gathers items f (Ok all) = (items all ≡ f.bytes) × (f.stop ≡ End)
 Gathers items f (Err e) = (f.stop ≡ Fault (error_kind e)) ⊎ (error_kind e ≡ OutOfMemory)
 
--- whether `count` pieces of 8192 bytes of a feed were read into a list
+-- whether the list `all` holds the first `count` pieces of 8192 bytes of a feed, and these were taken, if the feed is
+-- stated
 abbrev pub GatheredTo : Option Feed → Option Feed → List ℕ → ℕ → Type 0
 GatheredTo None new all count = ⊤
 GatheredTo (Some f) None all count = ⊥

@@ -9,7 +9,7 @@ use Rattle.tiny_http_io.specs.declared.device.FailsAt.{FailsAt}
 abbrev pub fails_at_inner : {S : Type 0} → FailsAt S → S
 fails_at_inner f = f.inner
 
--- the number of calls left up to and including the one that fails; 0 if no further call fails
+-- the number of calls left up to and including the chosen one; 0 if no fault is still to be injected
 abbrev pub calls_left : {S : Type 0} → FailsAt S → ℕ
 calls_left f = f.calls
 

@@ -5,8 +5,8 @@ use Rattle.tiny_http_text.specs.Lines.{has_crlf}
 use Rattle.tiny_http_io.specs.declared.source.LineFault.{LineFault}
 use Rattle.tiny_http_io.specs.declared.source.LineFault.TheVariants.{TooLong}
 
--- the bytes that are held back, given whether a CR is held back because it may begin the CR LF of the line: that CR, or
--- none
+-- the bytes that are held back while a line is read: a CR if one is held back (`true`), because it may begin the line's
+-- CR LF; otherwise none
 abbrev pub held_return : Bool → List ℕ
 held_return true = 13 ∷ []
 held_return false = []

@@ -7,6 +7,6 @@ use Rattle.tiny_http_io.specs.declared.device.Metered.{Metered}
 abbrev pub metered_inner : {S : Type 0} → Metered S → S
 metered_inner m = m.inner
 
--- what a `Metered` states as a writer: its failures, but no bytes
+-- the sink that a `Metered` states: its failures, but no bytes
 abbrev pub metered_sink : {S : Type 0} → Metered S → Sink
 metered_sink m = record { taken = None; sent = []; failures = m.failures; last_kind = m.last; has_ended = false }

@@ -16,8 +16,8 @@ holding s held ended =
       has_ended = ended || s.has_ended;
     }
 
--- The parts of an `Outlet` that contracts refer to: the bytes held back, whether it takes nothing more, the inner
--- writer, and what the writer states.
+-- The parts of an `Outlet` that contracts refer to: the bytes held back, whether the outlet has ended, the inner
+-- writer, and the writer's sink.
 pub record OutletState (W : Type 0) : Type 0 where
   pub held : List ℕ
   pub ended : Bool

@@ -23,8 +23,8 @@ use Rattle.tiny_http_io.specs.declared.source.LineFault.TheVariants.{NotAscii, T
 use Rattle.tiny_http_io.specs.declared.source.LineFault.TheVariants.{End as EndOfLines, TimedOut as LineTimedOut}
 
 -- The parts of a `Source` that contracts refer to: the feed still to come, if the reader states its own; how the input
--- stopped, if it has; whether it has stopped and none of it is left; the inner reader; the buffered bytes, and how many
--- bytes are to be skipped first; and the input state.
+-- stopped, if it has; whether it has stopped and no byte is left; the inner reader; the buffered bytes, and the number
+-- of bytes to be skipped first; and the input state.
 pub record SourceState (R : Type 0) : Type 0 where
   pub feed : Option Feed
   pub stop : Option Stop
@@ -35,7 +35,7 @@ pub record SourceState (R : Type 0) : Type 0 where
   pub input_state : InputState
 
 -- THE ENDS AND FAULTS THAT A SOURCE MEETS, according to the count of those that its reader has reported. No call raises
--- the sum of that count and the number still to come, so there is at most one in all calls of a source together.
+-- the sum of that count and the number still to come, so all calls to a source together meet at most one.
 abbrev pub CallsReader : {R : Type 0} → (R → ℕ) → SourceState R → SourceState R → Type 0
 CallsReader stop_count old new = stop_count new.reader + stops_to_come new.stop
     ≤ stop_count old.reader + stops_to_come old.stop
@@ -44,8 +44,8 @@ CallsReader stop_count old new = stop_count new.reader + stops_to_come new.stop
 abbrev pub HoldsLine : {R : Type 0} → SourceState R → Type 0
 HoldsLine s = has_crlf (drop s.skip s.held) ≡ true
 
--- whether the input has ended, or was made to end, and nothing of it is left: each further read of a line fails with
--- `End`, or with `TooLong` if its limit is 0
+-- whether the input has ended, or was made to end, and no byte is left: each further read of a line fails with `End`,
+-- or with `TooLong` if its limit is 0
 abbrev pub IsAtEnd : {R : Type 0} → SourceState R → Type 0
 IsAtEnd s = (s.is_over ≡ true) × (s.stop ≡ Some End)
 
@@ -159,7 +159,7 @@ GoesOn None new = ⊤
 GoesOn (Some old) None = ⊥
 GoesOn (Some old) (Some new) = IsRestOf old new
 
--- whether nothing is left of the input, and it stopped as its feed does
+-- whether the input has stopped as its feed does, and no byte is left
 pub record IsCutOff {R : Type 0} (old new : SourceState R) : Type 0 where
   pub over : new.is_over ≡ true
   pub remains : (f : Feed) → old.feed ≡ Some f → new.feed ≡ Some (stopped f.stop)

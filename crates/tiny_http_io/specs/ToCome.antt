@@ -1,4 +1,4 @@
--- The bytes still to come of an input that is partly buffered or to be skipped.
+-- The bytes still to come from an input, of which some may be buffered and some may have to be skipped.
 use Rattle.std.specs.Prelude.{◌≡◌, ℕ, nat_le, if◌then◌else◌, List, [], length, drop, Option, None, Some, ⊤}
 use Rattle.std.specs.Option.{option_map}
 use Rattle.tiny_http_io.specs.Device.{Feed, prepended}

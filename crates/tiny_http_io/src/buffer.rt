@@ -9,7 +9,7 @@ use crate::device::ReadDevice;
 use std::io;
 use std::marker::Model;
 
-/// The capacity, in bytes, of the buffer of a source or an outlet, as in the original crate.
+/// The capacity, in bytes, of the buffer of a source or an outlet (as in the Rust crate).
 pub const CAPACITY: usize = 1024;
 
 /// A queue of at most `CAPACITY` bytes: bytes enter at the back and leave at the front.

@@ -16,7 +16,7 @@ use std::marker::Model;
 pub enum Stop {
     /// The end of input: no byte follows.
     End,
-    /// A fault: each further read fails with an error of this kind.
+    /// A fault: each further read into a nonempty buffer fails with an error of this kind.
     Fault(ErrorKind),
 }
 
@@ -40,7 +40,7 @@ pub trait ReadDevice {
 
 /// A writer that counts its failures. Its contract may state the bytes that it took and its last failure.
 pub trait WriteDevice {
-    /// What the writer states: the bytes that it took, if it states them, and those of them that it has sent on; its
+    /// The writer's sink: the bytes that the writer took, if it states them, and those of them that it has sent on; its
     /// failures; and whether it has ended.
     ghost sink: { Self → Sink };
 
@@ -48,7 +48,7 @@ pub trait WriteDevice {
     fn failures(&self) -> u64
         ensures count { result ≡ (sink self.now).failures }
         // A law of every writer, stated here for want of a better place: the bytes that a writer has sent on are a
-        // prefix of those that it took. It holds back the others.
+        // prefix of those that it took, if it states these. It holds back the others.
         ensures sent { BeginsKnown (sink self.now).sent (sink self.now).taken };
 
     /// Writes some bytes from the front of `buf` and returns how many: at least one unless `buf` is empty. A writer
@@ -56,16 +56,16 @@ pub trait WriteDevice {
     fn write_out(&mut self, buf: &[u8]) -> Result<usize, io::Error>
         ensures { PutsFront (sink self.old) (sink self.new) result buf.now };
 
-    /// Sends on the bytes that the writer holds back. If it fails, bytes that the writer took and didn't send on may be
-    /// lost; otherwise the bytes that it took don't change.
+    /// Sends on the bytes that the writer holds back. If the flush fails, bytes that the writer took and didn't send on
+    /// may be lost; otherwise the bytes that the writer took don't change.
     fn flush_out(&mut self) -> Result<(), io::Error>
         ensures puts { Puts (sink self.old) (sink self.new) result [] }
         ensures sent { OnOk result ((sink self.new).has_ended ≡ false → HoldsNothing (sink self.new)) };
 
     /// Signals that no byte follows (RFC 9112, section 9.6). The caller must write nothing more.
     ///
-    /// What the writer states doesn't change. A writer that can't signal the end does nothing, as this default does.
-    /// That other writers signal it is tested, not proved.
+    /// The writer's `sink` doesn't change. A writer that can't signal the end does nothing, as this default does. That
+    /// other writers signal the end is tested, not proved.
     fn end_out(&mut self)
         ensures { sink self.new ≡ sink self.old }
     {}
@@ -84,7 +84,8 @@ pub fn copy_front(from: &[u8], to: &mut [u8]) -> usize
     n
 }
 
-/// A reader over bytes in memory that then stops with a given end or fault. A contract sees a `Canned` as its feed.
+/// A reader over bytes in memory, which stops after them with an end or a given fault. A contract sees a `Canned` as
+/// its feed.
 #[derive(Drop)]
 pub struct Canned {
     bytes: Vec<u8>,
@@ -226,8 +227,8 @@ impl<S: Write> WriteDevice for Metered<S> {
     /// `WriteZero`.
     fn write_out(&mut self, buf: &[u8]) -> Result<usize, io::Error>
         ensures puts { PutsFront (metered_sink self.old) (metered_sink self.new) result buf.now }
-        // If the inner stream states its bytes, it took the first n of these bytes if the write returned n, or none if
-        // the write failed.
+        // If the inner stream states its bytes, they grew by the first n bytes of `buf` if its write returned n, and
+        // didn't change if its write failed.
         ensures stream { WriteAppends (S.contents (metered_inner self.old)) (S.contents (metered_inner self.new))
             result buf.now }
     {
@@ -392,8 +393,8 @@ pub fn read_some<R: ReadDevice>(reader: &mut R, buf: &mut [u8]) -> Result<usize,
     reader.read_in(buf)
 }
 
-/// Reads at most `most` bytes into the front of `buf` and returns how many. If `most` is 0 or `buf` is empty, it
-/// returns 0 and changes nothing.
+/// Reads at most `most` bytes into the front of `buf` and returns how many. Returns 0 and changes nothing if `most` is
+/// 0 or `buf` is empty.
 pub fn read_front<R: ReadDevice>(
     reader: &mut R,
     most: usize,
@@ -415,7 +416,7 @@ pub fn read_front<R: ReadDevice>(
     reader.read_in(front)
 }
 
-/// Writes all the bytes, in as many calls to the writer as it takes. Stops at the first call that fails, and returns
+/// Writes all the bytes, in as many calls to the writer as are needed. Stops at the first call that fails, and returns
 /// its error.
 pub fn put<W: WriteDevice>(writer: &mut W, bytes: &[u8]) -> Result<(), io::Error>
     ensures { Puts (W.sink writer.old) (W.sink writer.new) result bytes.now }
@@ -448,7 +449,7 @@ impl<R> ByPieces<R> {
     ghost use Rattle.std.specs.Prelude.{max};
     ghost use Rattle.tiny_http_io.specs.Pieces.{pieces_inner, pieces_most};
 
-    /// Limits each read of `inner` to `most` bytes, or to one byte if `most` is 0.
+    /// Limits each read from `inner` to `most` bytes, or to one byte if `most` is 0.
     pub fn new(inner: R, most: usize) -> ByPieces<R>
         ensures inner { pieces_inner result ≡ inner }
         ensures most { pieces_most result ≡ max most 1 }
@@ -484,13 +485,14 @@ impl<R: ReadDevice> ReadDevice for ByPieces<R> {
     }
 }
 
-/// A reader or writer in which a fault is injected into one chosen call, or into none. That call doesn't reach the
-/// inner stream; every other call does, except a read into an empty buffer, and may fail as the inner stream does. It
-/// is a `ReadDevice` over a `ReadDevice`, and a `Write` over a `Write`. It is for testing code that reads and writes.
+/// A reader or writer with a fault injected into one chosen call, or into none. That call doesn't reach the inner
+/// stream; every other call does, except a read into an empty buffer, and may fail as the inner stream does. A
+/// `FailsAt` is a `ReadDevice` over a `ReadDevice`, and a `Write` over a `Write`. It is for testing code that reads and
+/// writes.
 #[derive(Drop)]
 pub struct FailsAt<S> {
     inner: S,
-    // The number of calls left up to and including the one that fails; 0 if no further call fails.
+    // The number of calls left up to and including the chosen one; 0 if no fault is still to be injected.
     calls: u64,
     kind: ErrorKind,
     has_failed: bool,
@@ -499,8 +501,8 @@ pub struct FailsAt<S> {
 impl<S> FailsAt<S> {
     ghost use Rattle.tiny_http_io.specs.FailsAt.{fails_at_inner, calls_left, fault_kind, has_failed, Counts};
 
-    /// Wraps a stream so that the `nth` call, counted from 1, fails with this kind. If `nth` is 0, no call fails.
-    /// Reads, writes and flushes all count, except a read into an empty buffer.
+    /// Wraps a stream so that the `nth` call, counted from 1, fails with this kind. If `nth` is 0, no fault is
+    /// injected. Reads, writes and flushes all count, except a read into an empty buffer.
     pub fn new(inner: S, nth: u64, kind: ErrorKind) -> FailsAt<S>
         ensures inner { fails_at_inner result ≡ inner }
         ensures calls { calls_left result ≡ nth }
@@ -549,7 +551,7 @@ impl<S: ReadDevice> ReadDevice for FailsAt<S> {
 
     ghost stop_count = { λ f. S.stop_count (fails_at_inner f) };
 
-    /// Reads once from the inner reader, or fails. It states no feed, since bytes may follow the fault.
+    /// Reads once from the inner reader, or fails. No feed is stated, since bytes may follow the fault.
     fn read_in(&mut self, buf: &mut [u8]) -> Result<usize, io::Error>
         ensures reads { Reads None None result buf.new }
         ensures empty { length buf.new ≡ 0 → (result ≡ Ok 0) × (self.new ≡ self.old) }

@@ -234,8 +234,8 @@ impl<R: ReadDevice> Input<R> {
         self.held.consume(n);
     }
 
-    // Takes a line of n buffered bytes, and consumes the CR LF after it. Fails if memory is refused; then nothing has
-    // changed.
+    // Takes a line of n buffered bytes, and consumes the CR LF after it. Fails with `Memory`, and changes nothing, if
+    // memory is refused.
     fn take_line(&mut self, alloc: Global, n: usize) -> Result<Vec<u8>, LineFault>
         requires { n + 2 ≤ length self.old.held }
         ensures text { IfOk result (λ text. text.items ≡ take n self.old.held) }
@@ -356,8 +356,8 @@ impl<R: ReadDevice> Input<R> {
         }
     }
 
-    /// Takes exactly n bytes. If fewer are left, it takes them all and returns `None`, and the input is over. If memory
-    /// is refused it fails, and nothing has changed.
+    /// Takes exactly n bytes. If fewer are left, takes them all and returns `None`, and the input is over. Fails, and
+    /// changes nothing, if memory is refused.
     pub fn take_exactly(&mut self, alloc: Global, n: usize) -> Result<Option<Vec<u8>>, AllocError>
         ensures takes { IfOk result
             (λ body. TakesExactly (λ v. v.items) n (input_feed R.feed self.old) (input_feed R.feed self.new) body) }

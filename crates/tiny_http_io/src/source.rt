@@ -39,7 +39,7 @@ pub enum FirstLine {
     Taken(Vec<u8>),
 }
 
-/// What comes next in a connection's input: a head, the rest of a body, or no further head, and why. Whether the input
+/// The next part of a connection's input: a head, the rest of a body, or no further head, and why. Whether the input
 /// itself has stopped isn't recorded here: `Source::stop` returns that.
 #[derive(Clone, Copy, Debug, PartialEq, Eq)]
 pub enum InputState {
@@ -91,12 +91,12 @@ impl InputState {
     }
 }
 
-/// The buffered input of a connection. It also stores the `InputState` that the crates that build on this one set.
+/// The buffered input of a connection. It also stores an `InputState`, which the crates that build on this one set.
 ///
-/// The buffer holds at most 1024 bytes. The reader is called only if a byte is wanted and none is buffered after those
-/// to be skipped, and never again after its first end or fault: nothing is read ahead beyond what one call returns. The
-/// clauses `lazy` in `specs/Source.antt` state that a call that returned what was asked for met no end or fault. The
-/// clauses `calls` state that the reader reports at most one end or fault in all calls together.
+/// The buffer holds at most 1024 bytes. The reader is called only for a byte that isn't buffered, and never again after
+/// its first end or fault: nothing is read ahead beyond what one call returns. The clauses `lazy` in
+/// `specs/Source.antt` state that a call that returned what was asked for met no end or fault. The clauses `calls`
+/// state that the reader reports at most one end or fault in all calls together.
 #[derive(Drop)]
 pub struct Source<R: ReadDevice> {
     input: Input<R>,
@@ -207,8 +207,8 @@ impl<R: ReadDevice> Source<R> {
 
     /// Reads the next line, as `read_line` does, if the line and its CR LF have at most `left` bytes.
     ///
-    /// If no CR LF is among the next `left` bytes, it fails with `TooLong` as soon as these have come, and the source
-    /// is at its end. At most `left` bytes of the line are copied. The other faults are those of `read_line`.
+    /// Fails with `TooLong` if the next `left` bytes contain no CR LF, as soon as these have come; the source is then
+    /// at its end. At most `left` bytes of the line are copied. The other faults are those of `read_line`.
     pub fn read_line_within(&mut self, alloc: Global, left: usize) -> Result<AsciiString, LineFault>
         ensures reads { ReadsOneLine (Some left) self.old self.new result }
         ensures calls { CallsReader R.stop_count self.old self.new }
@@ -266,8 +266,8 @@ impl<R: ReadDevice> Source<R> {
         self.input.read(buf)
     }
 
-    /// Takes exactly n bytes. If fewer are left, it takes them all and returns `None`, and the source is over. If
-    /// memory is refused it fails, and nothing has changed.
+    /// Takes exactly n bytes. If fewer are left, takes them all and returns `None`, and the source is over. Fails, and
+    /// changes nothing, if memory is refused.
     pub fn take_exactly(&mut self, alloc: Global, n: usize) -> Result<Option<Vec<u8>>, AllocError>
         ensures takes { TakesBytes n self.old self.new result }
         ensures calls { CallsReader R.stop_count self.old self.new }

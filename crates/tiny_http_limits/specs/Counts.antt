@@ -66,13 +66,13 @@ abbrev pub with_last_refusal : Option ℕ → Counts → Counts
 with_last_refusal None c = c
 with_last_refusal (Some status) c = record c { refusals = with_refusal status c.refusals }
 
--- the counters after the end of a connection: the limit that closed it, if any, is counted
+-- the counters after the end of a connection, once the limit that closed it, if any, has been counted
 abbrev pub with_any_closing : Option Closing → Counts → Counts
 with_any_closing None c = c
 with_any_closing (Some closing) c = with_closing closing c
 
--- A CONNECTION ENDED: the counters once its requests, its refused head, if any, and the limit that closed it, if any,
--- are counted.
+-- THE END OF A CONNECTION: the counters once its requests, its refused head, if any, and the limit that closed it, if
+-- any, have been counted.
 abbrev pub with_end : Summary → Counts → Counts
 with_end s c =
     with_any_closing s.closing (with_last_refusal s.refusal (record c { requests = add_count c.requests s.requests }))

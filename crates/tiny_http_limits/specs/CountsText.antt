@@ -16,7 +16,7 @@ refusals_text r =
     ∷ codes " 431:" ∷ decimal r.header_fields_too_large ∷ codes " 501:" ∷ decimal r.not_implemented
     ∷ codes " 505:" ∷ decimal r.version_not_supported ∷ codes " other:" ∷ decimal r.other ∷ [])
 
--- the text of the counters: each count after its name, in one line
+-- the text of the counters: each count after its name, on one line
 abbrev pub counts_text : Counts → List ℕ
 counts_text c =
     joined (codes "connections " ∷ decimal c.connections ∷ codes ", requests " ∷ decimal c.requests

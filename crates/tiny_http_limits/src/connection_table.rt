@@ -47,7 +47,7 @@ pub struct ConnectionTable<T> {
     most_of_address: usize,
     // The number of the next connection.
     next: u64,
-    // How many entries there are.
+    // The number of entries.
     present: Headcount,
     entries: Vec<Entry<T>>,
 }
@@ -145,8 +145,8 @@ impl<T: Drop> ConnectionTable<T> {
             .count()
     }
 
-    /// Removes the connection with this number and returns its item. If there is no such connection, it returns `None`
-    /// and changes nothing.
+    /// Removes the connection with this number and returns its item. Returns `None` and changes nothing if there is no
+    /// such connection.
     pub fn leave(&mut self, number: u64) -> Option<T>
         ensures item { result ≡ item_of number self.old.entries }
         ensures gone { self.new ≡ record self.old { entries = without number self.old.entries } }

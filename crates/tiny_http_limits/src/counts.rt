@@ -215,7 +215,7 @@ impl fmt::Display for Counts {
 
     ghost output = { λ c. Some (counts_text c) };
 
-    /// Writes the counts in one line, as in `connections 3, requests 12, refused 400:1 .. other:0, accept faults 0,
+    /// Writes the counts on one line, as in `connections 3, requests 12, refused 400:1 .. other:0, accept faults 0,
     /// closed: turned away 0, idle 1, head 0, body 0, write 0`.
     fn fmt<W: fmt::Write>(&self, f: &mut fmt::Formatter<W>) -> fmt::Result {
         write!(

@@ -27,7 +27,7 @@ impl Headcount {
         Headcount { present: 0 }
     }
 
-    /// Adds one and returns true. At 2^64 - 1 it returns false and changes nothing.
+    /// Adds one and returns `true`. Returns `false` and changes nothing if the count is 2^64 - 1.
     pub fn enter(&mut self) -> bool
         ensures { CountsIn self.old result self.new }
     {
@@ -38,7 +38,7 @@ impl Headcount {
         true
     }
 
-    /// Subtracts one and returns true. At 0 it returns false and changes nothing.
+    /// Subtracts one and returns `true`. Returns `false` and changes nothing if the count is 0.
     pub fn leave(&mut self) -> bool
         ensures { CountsOut self.old result self.new }
     {

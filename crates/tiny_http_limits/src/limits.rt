@@ -48,7 +48,7 @@ pub struct Limits {
 }
 
 impl Limits {
-    /// Returns the default limits, which are stated at the fields.
+    /// Returns the default limits. The documentation of each field states its default.
     pub fn new() -> Limits
         ensures connections { result.connections ≡ 1_000 }
         ensures of_address { result.connections_of_address ≡ 250 }

@@ -8,7 +8,7 @@ use Rattle.tiny_http_response.specs.Answer.{Printing, text_plain}
 use Rattle.tiny_http_open_request.specs.Pipeline.{Manner, Refusal, VersionNotSupported, refusal_status}
 use Rattle.tiny_http_response.specs.ResponseValue.{ResponseValue, response_of, response_text, printing_to}
 
--- what a response says about its connection: under `Standard` that the connection closes after the last request, and
+-- the persistence that a response states: under `Standard` that the connection closes after the last request, and
 -- persists after any other; under another profile nothing (`None`)
 abbrev pub persistence_of : Bool → Bool → Option Persistence
 persistence_of by_standard is_last = if by_standard then Some (if is_last then Close else Persistent) else None

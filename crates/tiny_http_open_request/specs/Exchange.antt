@@ -15,7 +15,7 @@ use Rattle.tiny_http_response.specs.declared.response_context.ResponseContext.{R
 use Rattle.tiny_http_open_request.specs.TextState.{drop_text}
 use Rattle.tiny_http_body.specs.Body.{Remaining, remaining, remainder, is_streaming, is_whole, Fits, GivesUp}
 
--- the exchange of a request, from its head and what is kept of the request until the response
+-- the exchange of a request, from its head and its state until the response
 abbrev pub exchange_of : Head → OpenRequest UnreadBody → Exchange
 exchange_of head request = record { head = head; open_request = request }
 
@@ -23,7 +23,7 @@ exchange_of head request = record { head = head; open_request = request }
 abbrev pub exchange_head : Exchange → Head
 exchange_head x = x.head
 
--- what is kept of an exchange's request until the response
+-- the state of an exchange's request until the response
 abbrev pub exchange_open : Exchange → OpenRequest UnreadBody
 exchange_open x = x.open_request
 
@@ -61,8 +61,8 @@ exchange_drop_text x = drop_text x.open_request.dropped (exchange_context x)
 abbrev pub exchange_check : Exchange → List ℕ → ℕ → Result ⊤ UpgradeError
 exchange_check x protocol code = request_check x.open_request protocol code (is_whole x.open_request.body)
 
--- whether the head of an exchange's request is unchanged, and `P` relates what was kept of the request to what is kept
--- now
+-- whether the head of an exchange's request is unchanged, and `P` relates the state of the request before to its state
+-- after
 abbrev pub Changes : (OpenRequest UnreadBody → OpenRequest UnreadBody → Type 0) → Exchange → Exchange → Type 0
 Changes P old new = (new.head ≡ old.head) × P old.open_request new.open_request
 

@@ -1,5 +1,5 @@
 -- The effect on the input of the calls that read a head. If the feed before a call is `None`, because the reader
--- doesn't state its bytes, these relations say nothing of what the call reads.
+-- doesn't state its bytes, these relations say nothing about what the call reads.
 use Rattle.std.specs.Prelude.{◌≡◌, ◌≢◌, ℕ, ◌+◌, ◌-◌, ⊤, ◌⊎◌, List, [], length, nat_lt, Option, Some, None, Result, Ok}
 use Rattle.std.specs.Prelude.{Err, unwrap_or, Bool, true, false, MatchBool, IfSome, IfOk, IsErr, IsSome, if◌then◌else◌}
 use Rattle.std.specs.declared.alloc.AllocError.{AllocError}
@@ -383,7 +383,7 @@ IsFramedAs under.Standard m f =
 abbrev pub IsFramedHead : Profile → Head → Type 0
 IsFramedHead p h = IsFramedAs p (head_message h) (head_framing h)
 
--- whether a head is framed as in `IsFramedAs`, and this is what is kept of the request with this head on this date
+-- whether a head is framed as in `IsFramedAs`, and this is the open request for this head on this date
 abbrev pub IsFramedBy : {B : Type 0} → Profile → HttpDate → Head → OpenRequest B → Type 0
 IsFramedBy p date h kept = IsFramedHead p h × KeepsHead kept h date
 
@@ -428,8 +428,8 @@ pub record TakesHead {R : Type 0} (p : Profile) (date : HttpDate) (old new : Sou
   -- Unless the result is that no request follows, a byte of a head has arrived; or, except under `Standard`, the reader
   -- timed out. At the end of the source memory isn't refused.
   pub begun : (IsOkEnd r → ⊥) → HasByteOrTimedOut p old.feed
-  -- Whatever the reader states: a request is framed as in `IsFramedAs`, its body fits that framing, and what is kept of
-  -- the request is that of its head.
+  -- Whatever the reader states: a request is framed as in `IsFramedAs`, its body fits that framing, and its open
+  -- request is the one for its head.
   pub framed : IfOk r (IsFramedRequest p date)
   pub fits : IfOk r FitsHead
   -- Nothing is read ahead: if a request was read, no end or fault of the reader was met.

@@ -1,4 +1,4 @@
--- What a head asks for that concerns its connection.
+-- Whether a head asks for an upgrade of its connection.
 use Rattle.std.specs.Prelude.{Bool, true, false, not, ◌&&◌, if◌then◌else◌}
 use Rattle.tiny_http_open_request.specs.declared.exchange.Head.{Head}
 use Rattle.tiny_http_body.specs.declared.framing.Form.{Form}

@@ -13,7 +13,8 @@ use Rattle.tiny_http_open_request.specs.declared.next_request.NextRequest.{NextR
 use Rattle.tiny_http_open_request.specs.declared.next_request.NextRequest.TheVariants as next
 use Rattle.tiny_http_open_request.specs.HeadReads.{TakesHead}
 
--- What the reading of heads changes: the source, the place for refusals, and the output that is lent to that place.
+-- The state that the reading of heads changes: the source, the place for refusals, and the output that is lent to that
+-- place.
 pub record At (R P O : Type 0) : Type 0 where
   pub source : SourceState R
   pub place : P
@@ -27,7 +28,7 @@ at source place output = record { source = source; place = place; output = outpu
 abbrev pub Refuses : Type 0 → Type 0 → Type 1
 Refuses P O = P → O → List ℕ → Bool → P → O → Type 0
 
--- What the reading of one head finds: a request, the end or refused memory; or `None` if another head follows.
+-- The result of reading one head: a request, the end or refused memory; or `None` if another head follows.
 abbrev pub Found : Type 0
 Found = Option (Result NextRequest AllocError)
 
@@ -43,7 +44,7 @@ abbrev pub FollowsRefusal : StatusCode → Bool → Bool → Found → Type 0
 FollowsRefusal status last true found = found ≡ after_refused status last
 FollowsRefusal status last false found = (e : AllocError) × (found ≡ Some (Err e))
 
--- the next request, as its head and what is kept of it
+-- the next request, as its head and its state until the response
 abbrev pub next_of : Exchange → NextRequest
 next_of x = next.Request x.head x.open_request
 

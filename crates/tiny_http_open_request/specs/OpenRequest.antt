@@ -63,8 +63,8 @@ is_last_with_stream w left = w.holds_next_head || is_last_once_finished w left
 abbrev pub closes_once_answered : Bool → Bool → Remainder → Bool
 closes_once_answered closes owed left = closes || (owed || not (is_skipped left))
 
--- how the response to an open request is printed now; if the request is the last according to its head, its context
--- says so already
+-- the context in which the response to an open request is printed; if the request is the last according to its head,
+-- the context that is kept says so already
 abbrev pub final_context : {B : Type 0} → OpenRequest B → Remainder → ResponseContext
 final_context w left =
     if w.by_standard && closes_once_answered w.closes w.owes_continue left then record w.response_context
@@ -75,8 +75,8 @@ abbrev pub is_plain : StreamedForm → Bool
 is_plain Plain = true
 is_plain _ = false
 
--- How the head of a response with a streamed body is printed: under `Standard` it says that the connection closes if
--- `final_context` does, or if the end of the connection ends the body.
+-- The context in which the head of a response with a streamed body is printed: under `Standard` the head says that the
+-- connection closes if `final_context` does, or if the end of the connection ends the body.
 abbrev pub streaming_context : {B : Type 0} → OpenRequest B → ℕ → Remainder → ResponseContext
 streaming_context w status left =
     if w.by_standard && is_plain (streamed_form w.response_context status) then record (final_context w left)
@@ -138,7 +138,7 @@ HasNoBodyLeft old new = new ≡ record old { body = Over End; owes_continue = fa
 abbrev pub HasSentAll : {W : Type 0} → OutletState W → Type 0
 HasSentAll o = (outlet_held o ≡ []) × SentOn o × IsFlushed (output_of o)
 
--- Whether this is what is kept of a request with this head that was handed out on this date.
+-- Whether this is the state of a request with this head as it is handed out on this date.
 pub record KeepsHead {B : Type 0} (w : OpenRequest B) (h : Head) (date : HttpDate) : Type 0 where
   pub version : w.response_context.version ≡ h.version
   pub asked_coding : w.response_context.asked_coding ≡ coding_for h.framing.by_standard h.headers.items

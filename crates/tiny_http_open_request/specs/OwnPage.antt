@@ -3,7 +3,7 @@ use Rattle.std.specs.Prelude.{Some, None, false}
 use Rattle.tiny_http_io.specs.Device.{Sink}
 use Rattle.tiny_http_open_request.specs.declared.error_response.OwnPage.{OwnPage}
 
--- what an `OwnPage` states as a writer: all bytes that it took count as sent on, and it never ends
+-- the sink of an `OwnPage`: all bytes that the page took count as sent on, and the page never ends
 abbrev pub page_sink : OwnPage → Sink
 page_sink p =
     record

@@ -1,4 +1,5 @@
--- What the bytes of a connection ask for: requests with their bodies, and heads that are refused.
+-- The pipeline of a connection: the items that its bytes contain, which are requests with their bodies, and heads that
+-- are refused.
 use Rattle.std.specs.Prelude.{◌≡◌, ℕ, ◌<◌, ◌≤◌, ◌⊎◌, ⊤, Bool, true, false, ◌&&◌, nat_lt, List, [], ◌∷◌, ◌++◌, length}
 use Rattle.std.specs.Prelude.{take, drop, Option, Some, None, Result, Ok, Err, unwrap_or, if◌then◌else◌}
 use Rattle.std.specs.declared.io.ErrorKind.{ErrorKind}
@@ -39,7 +40,7 @@ pub record Request : Type 0 where
   pub body : Feed
   pub behind : Feed
 
--- Why a head is refused.
+-- The reason why a head is refused.
 pub data Refusal : Type 0 where
   -- the bytes break the grammar of a head, or the head's framing or host is invalid
   BadRequest : Refusal
@@ -71,7 +72,7 @@ refusal_status RequestLineTooLong = 414
 refusal_status CodingNotImplemented = 501
 refusal_status MajorVersionNotSupported = 505
 
--- How the response to a refused head is printed: in this version, and under `Standard` or not.
+-- The manner in which the response to a refused head is printed: its version, and whether `Standard` applies.
 pub record Manner : Type 0 where
   pub version : HTTPVersion
   pub by_standard : Bool
@@ -87,9 +88,9 @@ abbrev pub framing_refusal : FramingFault → Refusal
 framing_refusal Invalid = BadRequest
 framing_refusal Expectation = ExpectationFailed
 
--- What one head asks for. `Asks`: the request is handed out. `Refuses`: the head is refused in this manner; `no_body`
--- marks a `HEAD`, which matters only for `VersionNotSupported`, and `last` means that no head is read after the refused
--- one.
+-- The item that one head contributes to a pipeline. `Asks`: the request is handed out. `Refuses`: the head is refused
+-- in this manner; `no_body` marks a `HEAD`, which matters only for `VersionNotSupported`, and `last` means that no head
+-- is read after the refused one.
 pub data Item : Type 0 where
   Asks : (request : Request) → Item
   Refuses : (refusal : Refusal) (manner : Manner) (no_body last : Bool) → Item
@@ -239,8 +240,8 @@ abbrev pub long_refusal : Bool → Refusal
 long_refusal false = RequestLineTooLong
 long_refusal true = HeaderFieldsTooLarge
 
--- What the bytes at the position of a head are. `Silence`: no item, and no response. `Refused`: a head that is refused.
--- `Heads`: the head of a request, its framing, and the bytes after it.
+-- The reading of the bytes at the position of a head. `Silence`: no item, and no response. `Refused`: a head that is
+-- refused. `Heads`: the head of a request, its framing, and the bytes after it.
 pub data Heading : Type 0 where
   Silence : Heading
   Refused : (refusal : Refusal) (manner : Manner) → Heading

@@ -72,8 +72,8 @@ pub fn error_response(
     refused_text(alloc, answer, version, by_standard, false, now)
 }
 
-/// Returns what a response says about its connection: under `Standard` that the connection closes after the last
-/// request and persists after any other, and `None` under another profile.
+/// Returns the persistence that a response states: under `Standard` that the connection closes after the last request
+/// and persists after any other, and `None` under another profile.
 pub(crate) fn persistence_of(by_standard: bool, is_last: bool) -> Option<Persistence>
     ensures { result ≡ persistence_of by_standard is_last }
 {

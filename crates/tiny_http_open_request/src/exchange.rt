@@ -37,7 +37,7 @@ pub struct Head {
     pub version: HTTPVersion,
     /// The headers, in order.
     pub headers: Vec<Header>,
-    /// How the request is framed, and whether the connection ends after it.
+    /// The framing of the request, and whether the connection ends after the request.
     pub framing: Framing,
 }
 
@@ -49,7 +49,7 @@ pub struct Exchange {
     open_request: OpenRequest<UnreadBody>,
 }
 
-/// Why no further request follows.
+/// The reason why no further request follows.
 #[derive(Clone, Copy, Debug, PartialEq, Eq)]
 pub enum EndOfRequests {
     /// The last request has been read: according to its version or its `Connection` header the connection ends after
@@ -139,8 +139,8 @@ impl Exchange {
         ensures kept { KeepsButBody self.old self.new }
         // One read meets at most one end or fault of the source's reader, and none if it returns bytes.
         ensures stop_count { Tells (R.stop_count source.old.reader) (R.stop_count source.new.reader) result }
-        // A read meets an end or fault of the source's reader only if the body is then cut or broken, or has no end of
-        // its own.
+        // A read meets an end or fault of the source's reader only if the body is then cut or broken, or is the whole
+        // rest of the input.
         ensures whole { R.stop_count source.new.reader ≤ R.stop_count source.old.reader
             + ends_met (exchange_body self.old) (bytes_given result) (exchange_body self.new) }
     {
@@ -262,8 +262,7 @@ impl Exchange {
         self.open_request.take_drop_text(left)
     }
 
-    /// Splits the request into its head and what is kept of the request until the response; for the crates that build
-    /// on this one.
+    /// Splits the request into its head and its state until the response. Used by the crates that build on this one.
     pub fn into_parts(self) -> (Head, OpenRequest<UnreadBody>)
         ensures { self ≡ exchange_of result.0 result.1 }
     {

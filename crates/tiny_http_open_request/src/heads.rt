@@ -22,7 +22,7 @@ pub(crate) struct MessageHead {
     pub headers: Vec<Header>,
 }
 
-/// Why the next line of a head can't be read.
+/// The reason why the next line of a head can't be read.
 #[derive(Clone, Copy, Debug, PartialEq, Eq)]
 pub(crate) enum HeadFault {
     Cut,

@@ -14,7 +14,7 @@ use tiny_http_io::source::Source;
 /// The next request of a connection, or why there is none.
 #[derive(Drop)]
 pub enum NextRequest {
-    /// A request: its head, and what is kept of the request until the response.
+    /// A request: its head, and its state until the response.
     Request(Head, OpenRequest<UnreadBody>),
     /// No further request, for this reason.
     Ended(EndOfRequests),

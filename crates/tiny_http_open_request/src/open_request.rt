@@ -1,6 +1,6 @@
 //! A request that was handed out and has no response yet: what the server owes it, how its response is printed, and its
-//! body. A `Connection` keeps it under its number, and a `Request` keeps it next to its turn. `Connection` and
-//! `Request` manage the turn; this module decides what is sent, and what is owed afterwards.
+//! body. A `Connection` keeps an open request under its number, and a `Request` keeps it next to its turn. `Connection`
+//! and `Request` manage the turn; this module decides what is sent, and what is owed afterwards.
 ghost use Rattle.std.specs.Prelude.{◌≡◌, ◌+◌, ◌≤◌, ℕ, List, true, false, IfOk};
 ghost use Rattle.tiny_http_standard_head.specs.Validation.{names_protocol};
 ghost use Rattle.std.specs.List.{list_all};
@@ -38,17 +38,17 @@ use tiny_http_response::response_context::{Persistence, ResponseContext};
 use tiny_http_response::sending::send_unless_ended;
 use tiny_http_standard_head::validation::{asks_chunked, names_protocol};
 
-/// What is kept of a request until its response, apart from its head, which the application has: how the response is
+/// The state of a request until its response, apart from its head, which the application has: how the response is
 /// printed, whether a 100 is owed, whether the connection closes, and the body.
 #[derive(Drop)]
 pub struct OpenRequest<B> {
-    /// How the response to this request is printed.
+    /// The context in which the response to this request is printed.
     pub response_context: ResponseContext,
     /// Whether a 100 is owed that hasn't been sent yet.
     pub owes_continue: bool,
     /// Whether the next head must not be read before the response: the request asks for an upgrade under `Standard`,
-    /// isn't its connection's last, and its body wasn't discarded. The bytes after it may belong to the other protocol
-    /// (RFC 9110, section 7.8).
+    /// isn't its connection's last, and its body wasn't discarded. The bytes after the request may belong to the other
+    /// protocol (RFC 9110, section 7.8).
     pub holds_next_head: bool,
     /// Whether the request's head was read under `Standard`.
     pub by_standard: bool,
@@ -58,7 +58,7 @@ pub struct OpenRequest<B> {
     pub closes: bool,
     /// Copies of the request's `Upgrade` headers if it held the next head when it was created; otherwise empty.
     pub upgrades: Vec<Header>,
-    /// What is sent if the request is dropped.
+    /// The text that is sent if the request is dropped.
     pub dropped: DropText,
     /// The request's body, and how far it was read.
     pub body: B,
@@ -150,10 +150,10 @@ impl<B: Drop> OpenRequest<B> {
         self.holds_next_head || self.is_last_once_finished(left)
     }
 
-    // Returns how the response to this request is printed now, with `left` of its body unread. Under `Standard` the
-    // response says that the connection closes if the request is the last according to its head, `close` was called,
-    // its 100 is owed, or the rest of its body isn't skipped: it is long, or its end isn't known (RFC 9112, section
-    // 9.6).
+    // Returns the context in which the response to this request is printed, with `left` of its body unread. Under
+    // `Standard` the response says that the connection closes if the request is the last according to its head, `close`
+    // was called, its 100 is owed, or the rest of its body isn't skipped: it is long, or its end isn't known (RFC 9112,
+    // section 9.6).
     fn final_context(&self, left: Remainder) -> ResponseContext
         ensures { result ≡ final_context self.now left }
     {
@@ -227,8 +227,8 @@ impl<B: Drop> OpenRequest<B> {
         self.response_context.streamed_form(status)
     }
 
-    // Returns how the head of a response with a streamed body is printed. Under `Standard` it says that the connection
-    // closes if `final_context` does, or if the end of the connection ends the body.
+    // Returns the context in which the head of a response with a streamed body is printed. Under `Standard` the head
+    // says that the connection closes if `final_context` does, or if the end of the connection ends the body.
     fn streaming_context(&self, status: StatusCode, left: Remainder) -> ResponseContext
         ensures { result ≡ streaming_context self.now status.0 left }
     {
@@ -360,8 +360,8 @@ impl OpenRequest<UnreadBody> {
         ensures kept { self.new ≡ record self.old { body = self.new.body } }
         // One read meets at most one end or fault of the source's reader, and none if it returns bytes.
         ensures stop_count { Tells (R.stop_count source.old.reader) (R.stop_count source.new.reader) result }
-        // A read meets an end or fault of the source's reader only if the body is then cut or broken, or has no end of
-        // its own.
+        // A read meets an end or fault of the source's reader only if the body is then cut or broken, or is the whole
+        // rest of the input.
         ensures whole { R.stop_count source.new.reader
             ≤ R.stop_count source.old.reader + ends_met self.old.body (bytes_given result) self.new.body }
     {

@@ -18,7 +18,7 @@ use tiny_http_response::response_context::ResponseContext;
 use tiny_http_response::sending::send_upgrade;
 use tiny_http_text::bytes::are_ascii;
 
-/// Why a connection wasn't upgraded.
+/// The reason why a connection wasn't upgraded.
 #[derive(Clone, Copy, Debug, PartialEq, Eq, Error)]
 pub enum UpgradeError {
     /// The protocol's name isn't ASCII.

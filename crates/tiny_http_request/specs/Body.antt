@@ -25,10 +25,10 @@ outlasts_body Never = false
 
 -- The parts of a `Body` that contracts refer to.
 pub record BodyState : Type 0 where
-  -- how far the body was read
+  -- the unread part of the body
   pub unread : UnreadBody
-  -- What the connection's input still gives, if the body holds it. If the body has passed the input on: what the input
-  -- gave when the body was made. If the body never held the input: an ended feed.
+  -- The feed of the connection's input, if the body holds the input. If the body has passed the input on, the feed is
+  -- that of the input when the body was made. If the body never held the input, the feed is an ended one.
   pub input : Option Feed
   -- whether the body holds the input, and whether it still does after the body's end, until its request is answered or
   -- dropped

@@ -70,7 +70,7 @@ IfCreationIo ExpectationFailed P = ⊤
 IfCreationIo (CreationIoError e) P = P e
 IfCreationIo Memory P = ⊤
 
--- the kind of the error for a body that ends early because its reader stopped like this
+-- the kind of the error for a body that this stop of its reader cuts short
 abbrev pub cut_kind : Stop → ErrorKind
 cut_kind End = ConnectionAborted
 cut_kind (Fault kind) = kind
@@ -102,8 +102,9 @@ Says r secure address method path version =
 abbrev pub IsFramed : {R : Type 0} → {W : Type 0} → {Rt : Type 0} → Request R W Rt → Profile → HttpDate → Type 0
 IsFramed r profile date = IsFramedBy profile date (request_head r) (request_open r)
 
--- Why no request is made from these headers: what they expect can't be met, a body that is read at once is cut short,
--- or memory was refused, which is unrestricted.
+-- Whether making a request from these headers may fail with this error: with `ExpectationFailed` only if what they
+-- expect can't be met, and with a reader's fault only if a body that is read at once is cut short. `Memory` is
+-- unrestricted.
 abbrev pub FailsBy : RequestCreationError → HTTPVersion → List Header → Option Feed → Type 0
 FailsBy e version headers feed =
     (is_expectation_failed e ≡ true → framing Lenient version headers ≡ Err Expectation)

@@ -9,11 +9,11 @@ use Rattle.tiny_http_request.specs.declared.test.TestBody.{TestBody}
 use Rattle.tiny_http_request.specs.declared.test.TestBody.TheVariants.{Text, Bytes}
 use Rattle.tiny_http_request.specs.declared.test.TestRequest.{TestRequest}
 
--- what a `Nowhere`, a writer that takes all bytes and keeps none, states: no bytes and no failure
+-- the sink of a `Nowhere`, a writer that takes all bytes and keeps none: it states no bytes and no failure
 abbrev pub nowhere_sink : Nowhere → Sink
 nowhere_sink _ = record { taken = None; sent = []; failures = 0; last_kind = None; has_ended = false }
 
--- what a `Recorder`, a writer whose bytes are under a lock, states: its own failures, and no bytes
+-- the sink of a `Recorder`, a writer whose bytes are under a lock: it states its own failures, and no bytes
 abbrev pub recorder_sink : {Rt : Type 0} → Recorder Rt → Sink
 recorder_sink w = record { taken = None; sent = []; failures = w.failures; last_kind = None; has_ended = false }
 

@@ -1,4 +1,4 @@
--- The definitions that contracts refer to for a body that is read whole.
+-- Definitions for a body that is read whole.
 use Rattle.std.specs.Prelude.{◌≡◌, ◌⊎◌, ◌<◌, ⊤, ℕ, true, List, Option, Some, None}
 use Rattle.std.specs.IoError.{error_kind}
 use Rattle.std.specs.declared.io.Error.{Error}
@@ -28,9 +28,10 @@ error_by _ _ e = Io e
 abbrev pub fault_error : Form → Error → BodyError
 fault_error form e = error_by form (error_kind e) e
 
--- Why reading the rest of a body failed, whatever its form. `TooLong`: a body of unknown length, with no fault reported
--- before, has more bytes than the limit. `Cut`: the bytes of a body that is read from the input ended early. `Broken`:
--- never. `Io`: this fault was reported, and each later read reports it. `Memory` is unrestricted.
+-- Whether reading the rest of a body may fail with this error, whatever the body's form. `TooLong`: a body of unknown
+-- length, with no fault reported before, has more bytes than the limit. `Cut`: the bytes of a body that is read from
+-- the input ended early. `Broken`: never. `Io`: this fault was reported, and each later read reports it. `Memory` is
+-- unrestricted.
 abbrev pub FailsReading : UnreadBody → UnreadBody → BodyError → Type 0
 FailsReading old new TooLong = (bytes_left old ≡ None) × ((kind : ErrorKind) → body_stop old ≡ Some (Fault kind) → ⊥)
 FailsReading old new Cut = (is_streaming old ≡ true) × IsBodyOver new
@@ -42,9 +43,9 @@ FailsReading old new Memory = ⊤
 abbrev pub HasAnEnd : Form → Type 0
 HasAnEnd form = (form ≡ Counted) ⊎ (form ≡ Chunked)
 
--- WHY A BODY OF THIS FORM ISN'T READ WHOLE, with this limit. `TooLong`: its length is above the limit, or unknown with
--- no fault reported before. `Cut`: its bytes ended early. `Broken` or `Io`: it reported this fault, which each later
--- read reports. `Memory`: memory was refused, which is unrestricted.
+-- WHETHER READING A BODY OF THIS FORM WHOLE MAY FAIL with this error, under this limit. `TooLong`: its length is above
+-- the limit or unknown, and it reported no fault before. `Cut`: its bytes ended early. `Broken` or `Io`: it reported
+-- this fault, which each later read reports. `Memory`: memory was refused, which is unrestricted.
 abbrev pub FailsWhole : Form → ℕ → UnreadBody → UnreadBody → BodyError → Type 0
 FailsWhole form most old new TooLong =
     ((n : ℕ) → bytes_left old ≡ Some n → most < n) × ((kind : ErrorKind) → body_stop old ≡ Some (Fault kind) → ⊥)

@@ -1,4 +1,4 @@
-//! What a request does to its body and its turn when its response or the stream of its upgrade begins.
+//! The changes to a request's body and turn when its response or the stream of its upgrade begins.
 ghost use Rattle.tiny_http_request.specs.Body.{KeepsLeft, upgraded_body};
 
 use crate::body::Body;

@@ -19,7 +19,7 @@ use tiny_http_io::device::ReadDevice;
 use tiny_http_io::source::{InputState, Source};
 use tiny_http_threads::held_reader::HeldReader;
 
-// When the body passes the connection's input on to the next head.
+// The time at which the body passes the connection's input on to the next head.
 #[derive(Drop)]
 pub(crate) enum GivesOn {
     // Once the body has been read to its end or given up.
@@ -155,8 +155,8 @@ impl<R: ReadDevice + Drop, Rt: Wait + Drop> Body<R, Rt> {
         self.unread.remainder()
     }
 
-    /// Makes the body the stream of an upgrade: under `Standard`, if the body holds the input, it reads all that comes
-    /// from now on.
+    /// Makes the body the stream of an upgrade: under `Standard`, if the body holds the input, it reads all further
+    /// input.
     pub(crate) fn become_stream(&mut self, by_standard: bool)
         ensures { self.new ≡ upgraded_body by_standard self.old }
     {

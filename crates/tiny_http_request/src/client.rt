@@ -20,7 +20,7 @@ use tiny_http_io::source::Source;
 use tiny_http_open_request::exchange::{EndOfRequests, Head};
 use tiny_http_open_request::next_request::{NextRequest, RefusalPlace, next_request};
 use tiny_http_open_request::open_request::OpenRequest;
-use tiny_http_socket::connection_timers::ConnectionTimers;
+use tiny_http_socket::shared_state::SharedState;
 use tiny_http_socket::cork::FlushPolicy;
 use tiny_http_socket::refined_tcp_stream::RefinedTcpStream;
 use tiny_http_threads::held_reader::HeldReader;
@@ -28,7 +28,7 @@ use tiny_http_threads::sequential::{
     SequentialReader, SequentialReaderBuilder, SequentialWriter, SequentialWriterBuilder,
 };
 
-/// What is known of a client.
+/// The client of a connection.
 #[derive(Clone, Copy)]
 pub(crate) struct Client {
     /// Whether its connection is encrypted.
@@ -42,8 +42,8 @@ pub(crate) struct Client {
 pub(crate) struct Links {
     /// The policy by which the connection's flushes may hold their bytes back, if there is one.
     pub flush_policy: Option<Arc<FlushPolicy>>,
-    /// The connection's timers, if they are set. A request has them only if it reads from the connection.
-    pub timers: Option<Arc<ConnectionTimers>>,
+    /// The state that the connection's threads share, if it is set. A request has it only if it reads from the connection.
+    pub shared: Option<Arc<SharedState>>,
 }
 
 /// A connection that hands out its requests one after another. Any thread may hold a request, even while the next is
@@ -61,7 +61,7 @@ pub struct ClientConnection<R: ReadDevice + Drop, W: WriteDevice + Drop, Rt: Wai
     next_head: Option<NextHead<R, Rt>>,
 }
 
-// Where the next head is read from.
+// The source of the next head.
 #[derive(Drop)]
 enum NextHead<R: ReadDevice + Drop, Rt: Wait + Drop> {
     // The input, which the connection holds.
@@ -188,7 +188,7 @@ impl<R: ReadDevice + Drop, W: WriteDevice + Drop, Rt: Wait + Copy> ClientConnect
             },
             links: Links {
                 flush_policy: None,
-                timers: None,
+                shared: None,
             },
             source,
             sink,
@@ -203,9 +203,9 @@ impl<R: ReadDevice + Drop, W: WriteDevice + Drop, Rt: Wait + Copy> ClientConnect
         self.client.secure
     }
 
-    /// Lets responses leave together: flushes hold their bytes back while this policy lets them.
+    /// Lets consecutive responses leave together: flushes hold their bytes back while this policy allows it.
     ///
-    /// The policy lets them once the connection hands out a request whose turn has come, whose body isn't read from the
+    /// The policy allows it once the connection hands out a request whose turn has come, whose body isn't read from the
     /// connection, and which asks for no upgrade under `Standard`; it stops when any other request is handed out. A raw
     /// writer, an upgrade, a streamed body and a 100 stop it too. The caller must have the `Cork` of this policy send
     /// the held bytes: with `send_unless_leaving` after each `next`, and with `send` at the end.
@@ -219,25 +219,25 @@ impl<R: ReadDevice + Drop, W: WriteDevice + Drop, Rt: Wait + Copy> ClientConnect
         self.links.flush_policy = Some(flush_policy);
     }
 
-    /// Makes `next` report to these timers when it waits for a head and when it hands out a request, and apply their
+    /// Makes `next` report to this state when it waits for a head and when it hands out a request, and apply its
     /// limit of open requests, which is at least 2: before a head, and before the response to a refused head, `next`
     /// waits until fewer are open. A `TimedReader` and a `TimedWriter` apply the other limits.
     ///
-    /// `next` returns `None` once the timers have been stopped. With limits it also returns `None` once a response has
+    /// `next` returns `None` once the connection has been stopped. With limits it also returns `None` once a response has
     /// ended the output without being whole, because its data were too short or failed, or because the writer failed;
-    /// the client of a socket then sees end of file. Fails if no further handle to the timers can be made.
-    pub fn set_timers(&mut self, timers: Arc<ConnectionTimers>) -> Result<(), AllocError>
+    /// the client of a socket then sees end of file. Fails if no further handle to the state can be made.
+    pub fn set_shared_state(&mut self, shared: Arc<SharedState>) -> Result<(), AllocError>
         ensures over { IsOver self.new ↔ IsOver self.old }
         ensures input { client_source self.new ≡ client_source self.old }
         ensures same { (client_secure self.new ≡ client_secure self.old)
             × (client_address self.new ≡ client_address self.old)
             × (client_profile self.new ≡ client_profile self.old) }
     {
-        self.sink.set_open(Arc::try_clone(timers.open())?);
-        if timers.limits().is_some() {
+        self.sink.set_open(Arc::try_clone(shared.open())?);
+        if shared.limits().is_some() {
             self.sink.close_when_broken();
         }
-        self.links.timers = Some(timers);
+        self.links.shared = Some(shared);
         Ok(())
     }
 
@@ -255,8 +255,8 @@ impl<R: ReadDevice + Drop, W: WriteDevice + Drop, Rt: Wait + Copy> ClientConnect
     /// It also returns `None` once a response made with `with_close` has been sent; a call that waits for the client
     /// then returns when the client sends a head, or sends no more. The client of a socket sees end of file after the
     /// last response, as `Request::respond` says. Refused heads are answered in their turn, for which the call doesn't
-    /// wait. They end the requests, except that under `Lenient` and `Strict` the next head is read after one with a
-    /// version above 1.1, unless that one names an upgrade or its body is chunked.
+    /// wait. They end the requests, except that under `Lenient` and `Strict` the next head is read after a head with a
+    /// version above 1.1, unless that head names an upgrade or its body is chunked.
     pub fn next(&mut self, now: HttpDate) -> Result<Option<Request<R, W, Rt>>, AllocError>
         ensures over { IsOver self.old → (result ≡ Ok None) × IsOver self.new }
         ensures none { IfOk result (λ r. IfNone r (IsOver self.new)) }
@@ -264,7 +264,7 @@ impl<R: ReadDevice + Drop, W: WriteDevice + Drop, Rt: Wait + Copy> ClientConnect
         // Whether a request that was handed out has closed the connection is known only under a lock. So no clause
         // states when a request is handed out: the result may be `None` although one is in the input.
         ensures handed { IfOk result (λ r. IfSome r (HandsOut self.old self.new now)) }
-        // If the connection holds the input, the request is the next one in what the input gives.
+        // If the connection holds the input, the request is the next one in the input.
         ensures reads { IfOk result (λ r. IfSome r (HandsOutNext self.old self.new now)) }
         ensures same { (client_secure self.new ≡ client_secure self.old)
             × (client_address self.new ≡ client_address self.old)
@@ -276,16 +276,16 @@ impl<R: ReadDevice + Drop, W: WriteDevice + Drop, Rt: Wait + Copy> ClientConnect
         if self.sink.is_closed() {
             return Ok(None);
         }
-        wait_if_full(&self.sink, &self.links.timers);
+        wait_if_full(&self.sink, &self.links.shared);
         let (alloc, profile) = (self.alloc, self.profile);
         let mut reader = next_head.hold();
         let source = &mut *reader.turn.item;
-        if self.sink.is_closed() || !begins_head(&self.links.timers, source) {
+        if self.sink.is_closed() || !begins_head(&self.links.shared, source) {
             return Ok(None);
         }
         let sink = &mut self.sink;
         let mut place = NextWriter {
-            timers: &self.links.timers,
+            shared: &self.links.shared,
         };
         match next_request(alloc, source, profile, &mut place, sink, now) {
             Ok(NextRequest::Request(head, open_request)) => {
@@ -298,7 +298,7 @@ impl<R: ReadDevice + Drop, W: WriteDevice + Drop, Rt: Wait + Copy> ClientConnect
                 }
             }
             Ok(NextRequest::Ended(end)) => {
-                note_end(&self.links.timers, end);
+                note_end(&self.links.shared, end);
                 Ok(None)
             }
             Err(_) if self.sink.is_closed() => Ok(None),
@@ -322,7 +322,7 @@ impl<R: ReadDevice + Drop, W: WriteDevice + Drop, Rt: Wait + Copy> ClientConnect
     }
 
     // Hands out a request that was read from this reader and is answered through this writer. The request takes the
-    // reader if its body is read from it, or if the next head waits for its response.
+    // reader if the body is read from the reader, or if the next head waits for the response.
     fn hand_out(
         &mut self,
         reader: HeldReader<Source<R>, Rt>,
@@ -349,7 +349,7 @@ impl<R: ReadDevice + Drop, W: WriteDevice + Drop, Rt: Wait + Copy> ClientConnect
         let may_leave = !holds_reader && writer.is_next();
         let links = Links {
             flush_policy: set_policy(&self.links.flush_policy, may_leave)?,
-            timers: begin_body(&self.links.timers, holds_reader)?,
+            shared: begin_body(&self.links.shared, holds_reader)?,
         };
         let (reader, held) = if holds_reader {
             (Some(reader), None)
@@ -390,36 +390,36 @@ fn next_head<R: ReadDevice + Drop, Rt: Wait + Copy>(
 }
 
 // Starts the wait for the next head. Returns false if the connection was stopped.
-fn begins_head<R: ReadDevice>(timers: &Option<Arc<ConnectionTimers>>, source: &Source<R>) -> bool {
-    match timers {
-        Some(timers) => timers.begin_head(!source.held().is_empty()),
+fn begins_head<R: ReadDevice>(shared: &Option<Arc<SharedState>>, source: &Source<R>) -> bool {
+    match shared {
+        Some(shared) => shared.begin_head(!source.held().is_empty()),
         None => true,
     }
 }
 
 // Records the status with which a head was refused, if that ended the requests.
-fn note_end(timers: &Option<Arc<ConnectionTimers>>, end: EndOfRequests) {
-    if let Some(timers) = timers
+fn note_end(shared: &Option<Arc<SharedState>>, end: EndOfRequests) {
+    if let Some(shared) = shared
         && let EndOfRequests::Refused(status) = end
     {
-        timers.refused(status.0);
+        shared.refused(status.0);
     }
 }
 
-// Records that a request is handed out, and returns another handle to the timers for a request that reads from the
-// connection. Fails if no further handle can be made.
+// Records that a request is handed out, and returns another handle to the shared state, for a request that reads from
+// the connection. Fails if no further handle can be made.
 fn begin_body(
-    timers: &Option<Arc<ConnectionTimers>>,
+    shared: &Option<Arc<SharedState>>,
     holds_reader: bool,
-) -> Result<Option<Arc<ConnectionTimers>>, AllocError> {
-    let Some(timers) = timers else {
+) -> Result<Option<Arc<SharedState>>, AllocError> {
+    let Some(shared) = shared else {
         return Ok(None);
     };
-    timers.begin_body();
+    shared.begin_body();
     if !holds_reader {
         return Ok(None);
     }
-    Ok(Some(Arc::try_clone(timers)?))
+    Ok(Some(Arc::try_clone(shared)?))
 }
 
 // Sets whether flushes may hold their bytes, if there is a policy, and returns another handle to the policy, for a
@@ -442,10 +442,10 @@ fn set_policy(
 // Waits, at the limit of open requests and refused heads, until one of them is finished.
 fn wait_if_full<W: WriteDevice + Drop, Rt: Wait + Copy>(
     sink: &SequentialWriterBuilder<Outlet<W>, Rt>,
-    timers: &Option<Arc<ConnectionTimers>>,
+    shared: &Option<Arc<SharedState>>,
 ) {
-    if let Some(timers) = timers
-        && let Some(most) = timers.full_at()
+    if let Some(shared) = shared
+        && let Some(most) = shared.full_at()
     {
         sink.wait_for_room(most);
     }
@@ -455,7 +455,7 @@ fn wait_if_full<W: WriteDevice + Drop, Rt: Wait + Copy>(
 // requests.
 #[derive(Drop)]
 struct NextWriter<'a> {
-    timers: &'a Option<Arc<ConnectionTimers>>,
+    shared: &'a Option<Arc<SharedState>>,
 }
 
 impl<W: WriteDevice + Drop, Rt: Wait + Copy> RefusalPlace<SequentialWriterBuilder<Outlet<W>, Rt>>
@@ -470,7 +470,7 @@ impl<W: WriteDevice + Drop, Rt: Wait + Copy> RefusalPlace<SequentialWriterBuilde
         sink: &mut SequentialWriterBuilder<Outlet<W>, Rt>,
         text: Vec<u8>,
     ) -> Result<(), AllocError> {
-        wait_if_full(sink, self.timers);
+        wait_if_full(sink, self.shared);
         let Some(writer) = sink.next_unless_closed()? else {
             return Err(AllocError);
         };

@@ -57,7 +57,7 @@ use tiny_http_open_request::open_request::OpenRequest;
 pub use tiny_http_open_request::upgrading::UpgradeError;
 use tiny_http_response::response::Response;
 use tiny_http_response::sending::reported;
-use tiny_http_socket::connection_timers::ConnectionTimers;
+use tiny_http_socket::shared_state::SharedState;
 use tiny_http_text::ascii::AsciiString;
 use tiny_http_threads::held_reader::HeldReader;
 use tiny_http_threads::sequential::{
@@ -166,7 +166,7 @@ impl<R: ReadDevice + Drop, W: WriteDevice + Drop, Rt: Wait + Drop> Request<R, W,
         }
     }
 
-    // Takes the request apart, and returns what is needed to finish it: what is kept of it until it is answered, and
+    // Takes the request apart. Returns the parts that finish it: what is kept of the request until it is answered, and
     // its turn.
     fn into_parts(self) -> (OpenRequest<Body<R, Rt>>, SequentialWriter<Outlet<W>, Rt>)
         ensures { result.0 ≡ self.open_request }
@@ -302,7 +302,7 @@ impl<R: ReadDevice + Drop, W: WriteDevice + Drop, Rt: Wait + Drop> Request<R, W,
         }
     }
 
-    /// Returns the body. If a 100 is owed it is sent first, dated `now`, in the turn of the request: the call waits
+    /// Returns the body. If a 100 is owed, it is sent first, dated `now`, in the turn of the request: the call waits
     /// until the earlier requests are finished. A fault of the writer isn't reported here.
     pub fn as_reader(&mut self, now: HttpDate) -> &mut Body<R, Rt>
         ensures { result.now ≡ request_body self.old }
@@ -326,9 +326,9 @@ impl<R: ReadDevice + Drop, W: WriteDevice + Drop, Rt: Wait + Drop> Request<R, W,
         (head, &mut open_request.body)
     }
 
-    /// Reads the body to its end, at most `most` bytes. If a 100 is owed it is sent first, dated `now`, in the turn of
+    /// Reads the body to its end, at most `most` bytes. If a 100 is owed, it is sent first, dated `now`, in the turn of
     /// the request: the call waits until the earlier requests are finished. Bytes that have already been read aren't in
-    /// the result. Memory is taken as bytes come, and not for a stated length.
+    /// the result. Memory is allocated as bytes come, and not for a stated length.
     ///
     /// Fails with `TooLong` if more than `most` bytes are left: at once if the length is known, and then nothing is
     /// sent or read; otherwise once `most` bytes and one more have been read. Fails with `Cut` if the client's bytes
@@ -572,18 +572,18 @@ impl<R: ReadDevice + Drop, W: WriteDevice + Drop, Rt: Wait + Drop> Request<R, W,
         Ok(self.begin_stream(protocol, response, is_whole, now))
     }
 
-    // Returns the timers for the stream's reads, if it still reads from the connection.
-    fn stream_timers(&self, is_whole: bool) -> Option<&Arc<ConnectionTimers>> {
+    // Returns the shared state for the stream's reads, if it still reads from the connection.
+    fn stream_timers(&self, is_whole: bool) -> Option<&Arc<SharedState>> {
         if !self.open_request.by_standard && is_whole {
             return None;
         }
-        self.links.timers.as_ref()
+        self.links.shared.as_ref()
     }
 
     // Counts the connection as upgraded. Returns false if the limit of upgraded connections is reached.
     fn enters_stream(&self, is_whole: bool) -> bool {
         match self.stream_timers(is_whole) {
-            Some(timers) => timers.enter_stream(),
+            Some(shared) => shared.enter_stream(),
             None => true,
         }
     }
@@ -606,8 +606,8 @@ impl<R: ReadDevice + Drop, W: WriteDevice + Drop, Rt: Wait + Drop> Request<R, W,
         ensures stream { ReadsStream self (custom_reader result) }
     {
         self.send_at_flush();
-        if let Some(timers) = self.stream_timers(is_whole) {
-            timers.begin_stream();
+        if let Some(shared) = self.stream_timers(is_whole) {
+            shared.begin_stream();
         }
         let alloc = self.alloc;
         let (mut open_request, mut writer) = self.into_parts();
@@ -653,7 +653,7 @@ impl<R: ReadDevice + Drop, W: WriteDevice + Drop, Rt: Wait + Drop> fmt::Debug
     }
 }
 
-// Returns the kind of the error for a body that ends early because its reader stopped like this.
+// Returns the kind of the error for a body that this stop of its reader cuts short.
 fn cut_kind(stop: Option<Stop>) -> ErrorKind
     ensures { IfSome stop (λ stop. result ≡ cut_kind stop) }
 {
@@ -663,7 +663,7 @@ fn cut_kind(stop: Option<Stop>) -> ErrorKind
     }
 }
 
-// Returns the body with this framing. A body of up to 1024 bytes is read at once.
+// Returns the body with this framing. A body of `Form::WithHead` is read at once.
 fn body_of<R: ReadDevice>(
     alloc: Global,
     source: &mut Source<R>,
@@ -701,9 +701,9 @@ fn alone<R: ReadDevice + Drop, Rt: Wait + Copy>(
     Ok(Some(reader))
 }
 
-/// Makes a request from these parts, on a connection of its own: its body is read from `source_data`, and its response
-/// is written to `writer`. A body of up to 1024 bytes is read at once, unless a 100 is owed. `now` dates the 500 that
-/// is sent if the request is dropped. Any version is accepted, and the request is framed as under `Lenient`.
+/// Makes a request from these parts, without a `ClientConnection`: its body is read from `source_data`, and its
+/// response is written to `writer`. A body of up to 1024 bytes is read at once, unless a 100 is owed. `now` dates the
+/// 500 that is sent if the request is dropped. Any version is accepted, and the request is framed as under `Lenient`.
 #[allow(clippy::too_many_arguments)]
 pub fn new_request<R: ReadDevice + Drop, W: WriteDevice + Drop, Rt: Wait + Copy>(
     rt: Rt,
@@ -753,7 +753,7 @@ pub fn new_request<R: ReadDevice + Drop, W: WriteDevice + Drop, Rt: Wait + Copy>
     };
     let links = Links {
         flush_policy: None,
-        timers: None,
+        shared: None,
     };
     Ok(Request::from_parts(alloc, client, head, open_request, reader, writer, links))
 }

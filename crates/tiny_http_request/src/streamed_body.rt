@@ -13,7 +13,7 @@ use tiny_http_threads::sequential::SequentialWriter;
 /// The body of a response that `Request::respond_streaming` began. It is written in the turn of its request, and sent
 /// by `Streamed`: bytes are held until they fill a piece of 8192 bytes, and `flush` sends what is held, with the head
 /// before the first byte. `finish` ends the body. If the body is dropped instead, the connection ends within it: a body
-/// in chunks is visibly cut; for a request of version 1.0 or lower, where the body ends with the connection, it looks
+/// in chunks is visibly cut, but a body for a request of version 1.0 or lower, which ends with the connection, looks
 /// whole.
 ///
 /// The call that meets the first fault of the client's writer fails with that fault. Each later call fails with
@@ -36,8 +36,8 @@ impl<W: WriteDevice + Drop, Rt: Wait + Drop> StreamedBody<W, Rt> {
         }
     }
 
-    /// Returns how the body is sent: in chunks, up to the connection's end, or not at all; in the last case what is
-    /// written is discarded.
+    /// Returns how the body is sent: in chunks, up to the connection's end, or not at all. In the last case the bytes
+    /// that are written are discarded.
     pub fn form(&self) -> StreamedForm
         ensures { result ≡ form_of self.now }
     {

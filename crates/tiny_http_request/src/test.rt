@@ -90,7 +90,7 @@ impl<Rt: Wait + Drop> WriteDevice for Recorder<Rt> {
 
     ghost sink = { recorder_sink };
 
-    /// Returns the count of its own failures.
+    /// Returns how many writes through this recorder have failed.
     fn failures(&self) -> u64 {
         self.failures
     }

@@ -1,4 +1,4 @@
--- What adding a header does to a response (RFC 9110, sections 7.6.1, 7.8 and 8.3; RFC 9112, section 6).
+-- The effect of adding a header to a response (RFC 9110, sections 7.6.1, 7.8 and 8.3; RFC 9112, section 6).
 use Rattle.std.specs.Prelude.{ℕ, Bool, true, false, ◌&&◌, ◌||◌, List, [], ◌∷◌, ◌++◌, Option, Some, None, codes}
 use Rattle.std.specs.Prelude.{if◌then◌else◌}
 use Rattle.tiny_http_head.specs.declared.common.Header.{Header}

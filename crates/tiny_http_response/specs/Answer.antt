@@ -56,7 +56,7 @@ answer_with status headers length =
 abbrev pub contentless_answer : ℕ → Answer
 contentless_answer status = record (answer_with status [] 0) { contentless = true }
 
--- the header of plain text
+-- the `Content-Type` header of plain text
 unfoldable pub text_plain : Header
 text_plain = record { field = codes "Content-Type"; value = codes "text/plain; charset=UTF-8" }
 
@@ -125,8 +125,8 @@ answer_head_text version status upgrade headers listed date framing =
 abbrev pub is_withheld : Bool → ℕ → Bool
 is_withheld asked status = asked || has_no_content status
 
--- The parts of how a response is printed that contracts refer to: what its request determines, whether the connection
--- persists (only under `Standard`), the protocol to upgrade to, and the date.
+-- The parameters of printing a response: those that its request determines, whether the connection persists (only under
+-- `Standard`), the protocol to upgrade to, and the date.
 pub record Printing : Type 0 where
   pub version : HTTPVersion
   pub asked_coding : Option Coding

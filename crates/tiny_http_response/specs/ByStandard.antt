@@ -1,5 +1,5 @@
--- What a response says under `Standard`: about its connection, in its headers, and because of its code (RFC 9112,
--- sections 9.3, 9.6 and 11.1; RFC 9110, sections 5.5, 6.2, 7.8, 8.6 and 15).
+-- The head of a response under `Standard`: its connection option, its headers, and the framing that its code determines
+-- (RFC 9112, sections 9.3, 9.6 and 11.1; RFC 9110, sections 5.5, 6.2, 7.8, 8.6 and 15).
 use Rattle.std.specs.Prelude.{ℕ, Bool, ◌||◌, ◌&&◌, ◌==◌, nat_lt, nat_le, List, [], ◌∷◌, ◌++◌, map, filter_map, Option}
 use Rattle.std.specs.Prelude.{Some, None, option_map, codes, if◌then◌else◌}
 use Rattle.httparse.specs.Grammar.{is_token, is_value_byte}

@@ -1,4 +1,4 @@
--- How a header is added to a response: where it goes.
+-- The way in which a header is added to a response: where the header goes.
 use Rattle.std.specs.Prelude.{◌≡◌, ℕ, List, ◌∷◌, ◌++◌, [], Option, Some, None, codes, if◌then◌else◌, Bool}
 use Rattle.tiny_http_head.specs.declared.common.Header.{Header}
 use Rattle.tiny_http_head.specs.Common.{same_name}

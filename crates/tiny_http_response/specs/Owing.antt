@@ -6,8 +6,8 @@ use Rattle.tiny_http_io.specs.declared.device.Stop.TheVariants.{Fault}
 use Rattle.tiny_http_response.specs.declared.response_context.Persistence.{Persistence}
 use Rattle.tiny_http_response.specs.declared.owing.OwingReader.{OwingReader}
 
--- how many bytes the data of a chunked response must have at least: under `Standard` the stated length, if there is
--- one, otherwise 0
+-- the minimum length of the data of a chunked response, in bytes: under `Standard` the stated length, if there is one,
+-- otherwise 0
 abbrev pub owed : Option Persistence → Option ℕ → ℕ
 owed (Some says) (Some n) = n
 owed says length = 0

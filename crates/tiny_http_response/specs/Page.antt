@@ -1,9 +1,9 @@
--- What a `Page` states as a writer.
+-- The sink of a `Page`.
 use Rattle.std.specs.Prelude.{Some, None, false, take}
 use Rattle.tiny_http_io.specs.Device.{Sink}
 use Rattle.tiny_http_response.specs.declared.page.Page.{Page}
 
--- what a page states: its bytes are taken and sent on at once, and it never ends
+-- the sink of a page: its bytes are taken and sent on at once, and the page never ends
 abbrev pub page_sink : Page → Sink
 page_sink p =
     record {

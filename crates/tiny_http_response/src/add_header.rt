@@ -12,7 +12,7 @@ use tiny_http_head::common::{Header, HeaderField};
 use tiny_http_head::grammar::parse_content_length;
 use tiny_http_text::ascii::AsciiString;
 
-/// How a header is added to a response.
+/// The way in which a header is added to a response.
 #[derive(Clone, Copy)]
 enum Place {
     /// The header is ignored.
@@ -93,8 +93,8 @@ pub(crate) fn add(
     }
 }
 
-/// Adds these headers one after another. If memory for one is refused, the error hands it back, those before it stay in
-/// the list, and the rest are dropped.
+/// Adds these headers one after another. If memory for a header is refused, the error hands back that header, those
+/// before it stay in the list, and the rest are dropped.
 pub(crate) fn add_all(
     headers: &mut Vec<Header>,
     data_length: &mut Option<usize>,

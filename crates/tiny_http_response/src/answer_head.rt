@@ -24,7 +24,8 @@ use tiny_http_text::number::Numeral;
 pub(crate) struct ResponseHead<'a> {
     /// The version of the request.
     pub(crate) version: HTTPVersion,
-    /// What the response says about its connection, under `Profile::Standard`; `None` under any other profile.
+    /// The persistence that the response states for its connection, under `Profile::Standard`; `None` under any other
+    /// profile.
     pub(crate) persistence: Option<Persistence>,
     pub(crate) status: StatusCode,
     pub(crate) headers: &'a [Header],

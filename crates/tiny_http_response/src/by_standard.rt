@@ -1,6 +1,6 @@
-//! What the head of a response has under `Profile::Standard`: whether its connection persists, the protocols that it
-//! offers, each header on one line, and the framing of a response without content (RFC 9112, sections 9.3, 9.6 and
-//! 11.1; RFC 9110, sections 5.5, 7.8 and 15).
+//! The parts of a response head that `Profile::Standard` determines: whether the connection persists, the protocols
+//! that the response offers, each header on one line, and the framing of a response without content (RFC 9112, sections
+//! 9.3, 9.6 and 11.1; RFC 9110, sections 5.5, 7.8 and 15).
 ghost use Rattle.std.specs.Prelude.{◌≡◌, ◌∷◌, [], Some, option_map};
 ghost use Rattle.std.specs.List.{flat_map};
 ghost use Rattle.std.specs.Option.{option_copied};

@@ -40,9 +40,9 @@ impl Response<Cursor<Vec<u8>>> {
 
 impl<R> Response<R> {
     /// Adds the header that `Header::new` makes from this name and value, as `add_header` does, which ignores
-    /// `Connection`, `Trailer`, `Transfer-Encoding` and `Upgrade`. Fails with `Refused` if the texts make no header,
-    /// and only then; with `Memory` if memory is refused. Both errors drop the response; `with_header` hands it back.
-    /// In a function that returns `io::Result`, `?` converts them to `InvalidInput` and `OutOfMemory`.
+    /// `Connection`, `Trailer`, `Transfer-Encoding` and `Upgrade`. Fails with `Refused` exactly if the texts make no
+    /// header, and with `Memory` if memory is refused. Both errors drop the response; `with_header` hands it back. In a
+    /// function that returns `io::Result`, `?` converts them to `InvalidInput` and `OutOfMemory`.
     pub fn with(self, alloc: Global, name: &str, value: &str) -> Result<Response<R>, ParseError>
     where
         R: Drop,

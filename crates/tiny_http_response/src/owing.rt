@@ -8,16 +8,16 @@ use std::io::ErrorKind;
 use tiny_http_io::device::ReadDevice;
 
 /// A reader that requires `left` more bytes from its inner reader: an end before the last of them is reported as
-/// `UnexpectedEof`. Bytes past them pass unchanged.
+/// `UnexpectedEof`. Bytes after them pass unchanged.
 #[derive(Drop)]
 pub(crate) struct OwingReader<R> {
     inner: R,
     left: usize,
 }
 
-/// Returns how many bytes the data of a chunked response must have at least: under `Profile::Standard` their length, if
-/// it is known, otherwise 0. A chunked body without its last chunk shows the client that it is incomplete (RFC 9112,
-/// section 8).
+/// Returns the minimum length of the data of a chunked response, in bytes: under `Profile::Standard` their length, if
+/// known, otherwise 0. A chunked body without its last chunk shows the client that it is incomplete (RFC 9112, section
+/// 8).
 pub(crate) fn owed(persistence: Option<Persistence>, data_length: Option<usize>) -> usize
     ensures { result ≡ owed persistence data_length }
 {

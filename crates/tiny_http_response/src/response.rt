@@ -335,9 +335,9 @@ impl<R> Response<R> {
     /// Closes the connection after this response (RFC 9112, section 9.6). Once a `Connection` or a `Request` has sent
     /// it, no further request is handed out; requests already handed out can still be answered. Under
     /// `Profile::Standard` the last response on the connection (this one, if no later request has been handed out) has
-    /// `Connection: close`, unless it was already made. With `Request`s, a socket's client sees end of file after the
-    /// last response; a `Connection` closes nothing. Upgrades and `Exchange` ignore this setting, and it doesn't change
-    /// the bytes that `raw_print` and `print` print.
+    /// `Connection: close`, unless its request was already dropped, is upgraded, or has its raw writer taken. With
+    /// `Request`s, a socket's client sees end of file after the last response; a `Connection` closes nothing. Upgrades
+    /// and `Exchange` ignore this setting, and it doesn't change the bytes that `raw_print` and `print` print.
     pub fn with_close(self) -> Response<R>
         ensures { result ≡ record self { answer = record self.answer { closes = true } } }
     {
@@ -402,7 +402,7 @@ impl<R> Response<R> {
     /// has no white space (bytes 9 to 13 and 32) and no colon; the value is trimmed and has no CR LF; both are ASCII.
     /// Call this if a header contains a client's text, such as a `Location` made from a decoded path: what follows a CR
     /// LF would be read as another header. The client theorem (the law `conversation_is_read` of
-    /// `tiny_http_connection_laws`) requires it of the headers of a response that isn't printed under
+    /// `tiny_http_connection_laws`) requires this of the headers of a response that isn't printed under
     /// `Profile::Standard`.
     pub fn is_readable(&self) -> bool
         ensures { IsTrue result ↔ AllByRecursion IsReadable self.now.answer.headers }
@@ -476,7 +476,7 @@ impl<R> Response<R> {
         self.print(alloc, writer, context, upgrade, now)
     }
 
-    /// Prints the head and the body as `raw_print` does, with what `context` keeps of the request. If
+    /// Prints the head and the body as `raw_print` does, with the properties of the request that `context` keeps. If
     /// `context.persistence` is `Some`, the response follows `Profile::Standard`: the status line has version 1.1, each
     /// header takes one line, and `Connection` comes before the response's headers if needed, except for an upgrade and
     /// a code below 200. No data are read for a code below 200, a 204, a 205 or a 304. In chunks, too, printing fails

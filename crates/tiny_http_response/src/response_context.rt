@@ -7,7 +7,7 @@ use crate::coding::{Coding, FramingHeader};
 use tiny_http_body::streamed::StreamedForm;
 use tiny_http_head::common::{HTTPVersion, StatusCode};
 
-/// What a response says about its connection (RFC 9112, section 9.3).
+/// The persistence of a connection, as a response states it (RFC 9112, section 9.3).
 #[derive(Clone, Copy, Debug, PartialEq, Eq)]
 pub enum Persistence {
     /// The connection persists. A response to HTTP/1.1 needs no header for that.
@@ -16,7 +16,8 @@ pub enum Persistence {
     Close,
 }
 
-/// What printing a response needs to know about its request and its connection, kept in place of the request's headers.
+/// The properties of a request and its connection that printing the response needs, kept in place of the request's
+/// headers.
 #[derive(Clone, Copy, Debug, PartialEq, Eq)]
 pub struct ResponseContext {
     /// The HTTP version of the request.
@@ -25,10 +26,11 @@ pub struct ResponseContext {
     pub asked_coding: Option<Coding>,
     /// Whether the response has no body because the request is a `HEAD`.
     pub no_body: bool,
-    /// What the response says about its connection (RFC 9112, section 9.6). `Some` prints the response as
-    /// `Profile::Standard` requires. `None` prints it as the original does: with the request's version in the status
-    /// line and with the response's headers unchanged. The response then has a length or a coding even if its code has
-    /// no content, unless the response is an upgrade, its body is streamed, or `Response::contentless` made it.
+    /// The persistence that the response states for its connection (RFC 9112, section 9.6). `Some` prints the response
+    /// as `Profile::Standard` requires. `None` prints it as the Rust crate does: with the request's version in the
+    /// status line and with the response's headers unchanged. The response then has a length or a coding even if its
+    /// code has no content, unless the response is an upgrade, its body is streamed, or `Response::contentless` made
+    /// it.
     pub persistence: Option<Persistence>,
 }
 

@@ -1,5 +1,5 @@
--- What contracts state about sockets and their addresses: the kind (TCP or Unix), the copy of a configured address, and
--- the text of an address.
+-- Definitions for contracts about sockets and their addresses: the kind (TCP or Unix), the copy of a configured
+-- address, and the text of an address.
 use Rattle.std.specs.Prelude.{◌≡◌, ℕ, List, Option, Some, None, ⊤}
 use Rattle.std.specs.declared.net.socket_addr.SocketAddr.{SocketAddr}
 use Rattle.std.specs.declared.net.unix.addr.SocketAddr.{SocketAddr as UnixAddr}
@@ -14,7 +14,7 @@ use Rattle.tiny_http_socket.specs.declared.connection.ConfigListenAddr.TheVarian
 use Rattle.tiny_http_socket.specs.declared.connection.ListenAddr.{ListenAddr}
 use Rattle.tiny_http_socket.specs.declared.connection.ListenAddr.TheVariants as A
 
--- whether a copy is of the same addresses in the same order, or of the same path
+-- whether a copy has the same addresses in the same order, or the same path
 abbrev pub IsCopyOf : ConfigListenAddr → ConfigListenAddr → Type 0
 IsCopyOf (G.IP addrs) (G.IP copy) = copy.items ≡ addrs.items
 IsCopyOf (G.IP addrs) (G.Unix path) = ⊥
@@ -28,7 +28,7 @@ IsBoundAs (G.IP addrs) (L.Unix l) = ⊥
 IsBoundAs (G.Unix path) (L.Tcp l) = ⊥
 IsBoundAs (G.Unix path) (L.Unix l) = ⊤
 
--- whether an address is of the kind of this listener
+-- whether an address is of the same kind as this listener
 abbrev pub HasAddressOf : Listener → ListenAddr → Type 0
 HasAddressOf (L.Tcp l) (A.IP addr) = ⊤
 HasAddressOf (L.Tcp l) (A.Unix addr) = ⊥
@@ -49,7 +49,8 @@ IsSameKind (C.Tcp s) (C.Unix t) = ⊥
 IsSameKind (C.Unix s) (C.Tcp t) = ⊥
 IsSameKind (C.Unix s) (C.Unix t) = ⊤
 
--- whether a connection is of the kind of the listener that accepted it, and has a peer address if that kind has one
+-- whether a connection is of the same kind as the listener that accepted it, and has a peer address exactly if it is
+-- TCP
 abbrev pub IsAcceptedBy : Listener → Connection → Option SocketAddr → Type 0
 IsAcceptedBy (L.Tcp l) (C.Tcp s) addr = HasPeerOf (C.Tcp s) addr
 IsAcceptedBy (L.Tcp l) (C.Unix s) addr = ⊥

@@ -15,11 +15,11 @@ reader_feed r = ahead_feed r.ahead
 abbrev pub reader_stop_count : {R W : Type 0} → (R → ℕ) → FlushingReader R W → ℕ
 reader_stop_count stop_count r = stop_count r.ahead.reader
 
--- what the write half states: its failures, and no bytes
+-- the sink of the write half: its failures, and no bytes
 abbrev pub writer_sink : {W Rt : Type 0} → CorkedWriter W Rt → Sink
 writer_sink w = record { taken = None; sent = []; failures = w.failures; last_kind = w.last; has_ended = false }
 
--- what a writer that states no bytes, such as a `CorkedWriter`, states before it has failed
+-- the sink of a writer that states no bytes, such as a `CorkedWriter`, before its first failure
 abbrev pub fresh_sink : Sink
 fresh_sink = record { taken = None; sent = []; failures = 0; last_kind = None; has_ended = false }
 

@@ -42,7 +42,7 @@ takes_none Open s = s.has_ended
 takes_none (Broken kind) s = false
 takes_none Ended s = true
 
--- what a `Corked` states as one writer: the bytes that the inner writer took, followed by the buffered ones
+-- the sink of a `Corked` as one writer: the bytes that the inner writer took, followed by the buffered ones
 abbrev pub corked_sink : {W : Type 0} → CorkedState W → Sink
 corked_sink c =
     record {

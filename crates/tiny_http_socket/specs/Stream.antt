@@ -17,7 +17,7 @@ abbrev pub shutdown_of : Half → Shutdown
 shutdown_of Reading = Read
 shutdown_of Writing = Write
 
--- what a half states as a writer: its failures and the kind of the last one, and no bytes
+-- the sink of a half as a writer: its failures and the kind of the last one, and no bytes
 abbrev pub stream_sink : RefinedTcpStream → Sink
 stream_sink s = record { taken = None; sent = []; failures = s.failures; last_kind = s.last; has_ended = false }
 

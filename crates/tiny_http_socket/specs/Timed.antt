@@ -26,11 +26,11 @@ abbrev pub IsLate : Result ℕ Error → Type 0
 IsLate (Ok n) = ⊥
 IsLate (Err e) = error_kind e ≡ TimedOut
 
--- what a `TimedWriter` states: its failures and the kind of the last one, and no bytes
+-- the sink of a `TimedWriter`: its failures and the kind of the last one, and no bytes
 abbrev pub timed_sink : {Rt : Type 0} → TimedWriter Rt → Sink
 timed_sink w = record { taken = None; sent = []; failures = w.failures; last_kind = w.last; has_ended = false }
 
--- what a `TimedWriter` states after one more failure, of this kind
+-- the sink of a `TimedWriter` after one more failure, of this kind
 abbrev pub failed_sink : {Rt : Type 0} → TimedWriter Rt → ErrorKind → Sink
 failed_sink w kind =
     record { taken = None; sent = []; failures = next_count w.failures; last_kind = Some kind; has_ended = false }

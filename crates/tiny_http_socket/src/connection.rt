@@ -13,8 +13,8 @@ use std::rt::Files;
 use std::time::Duration;
 use std::{fmt, fs, io};
 
-/// What a server needs of the file system for Unix sockets. Any runtime with files and sockets implements it. A `Files`
-/// bound instead would not let generic code share a server among threads.
+/// The file-system operations that a server needs for Unix sockets. Any runtime with files and sockets implements it. A
+/// `Files` bound instead would not let generic code share a server among threads.
 pub trait SocketFiles {
     /// Listens at this path, where it creates a file. Fails with the system's error.
     fn bind_unix(&self, path: Path<'_>) -> io::Result<unix_net::UnixListener>;
@@ -287,7 +287,7 @@ impl From<unix_net::UnixStream> for Connection {
     }
 }
 
-/// Where a server listens.
+/// The configured address at which a server listens.
 #[derive(Debug, Drop)]
 pub enum ConfigListenAddr {
     /// The first of these addresses that can be bound.
@@ -329,7 +329,7 @@ impl ConfigListenAddr {
     }
 
     /// Listens at the first of the addresses that can be bound, or at the path, where it creates a file. Fails with the
-    /// system's error for the last address if none can be bound, or for the path if it can't be bound; with
+    /// system's error for the last address if none can be bound, or for the path if the path can't be bound. Fails with
     /// `InvalidInput` if there is no address or if the path is too long.
     pub fn bind<R: Net<Listener = TcpListener, Stream = TcpStream> + SocketFiles>(
         &self,

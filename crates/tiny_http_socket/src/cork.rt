@@ -1,4 +1,5 @@
-//! The two halves of a connection that may send several responses together. Different threads may use them.
+//! The two halves of a connection whose write half may send several responses together. Different threads may use the
+//! two halves.
 ghost use Rattle.std.specs.Prelude.{◌≡◌, ◌<◌, ◌≤◌, ⊤, length, IfOk};
 ghost use Rattle.tiny_http_socket.specs.Cork.{reader_feed, writer_sink, fresh_sink, CountsOutcome};
 
@@ -12,8 +13,8 @@ use std::sync::atomic::{AtomicBool, Ordering};
 use std::sync::{Arc, Mutex, Wait};
 use tiny_http_io::device::{ReadDevice, WriteDevice};
 
-/// Whether a flush of a connection's writer may leave bytes buffered. A caller that allows this must send those bytes
-/// soon, with `Cork::send`.
+/// The flush policy of a connection: whether a flush of its writer may leave bytes buffered. A caller that allows this
+/// must send those bytes soon, with `Cork::send`.
 #[derive(Drop)]
 pub struct FlushPolicy {
     may_leave: AtomicBool,
@@ -45,7 +46,7 @@ impl FlushPolicy {
         self.may_leave.load(Ordering::SeqCst)
     }
 
-    // Makes each later flush send. Returns whether bytes may have been left since the last call.
+    // Makes each later flush send its bytes. Returns whether bytes may have been left since the last call.
     fn stop_and_take(&self) -> bool {
         self.send_at_flush();
         self.may_wait.swap(false, Ordering::SeqCst)
@@ -62,9 +63,9 @@ impl FlushPolicy {
     }
 }
 
-/// What the two halves of a connection share: the writer, and the bytes buffered for it. Bytes are written under a
-/// lock. A thread that writes, flushes or ends the writer waits for the lock. A thread that sends the buffered bytes
-/// before it reads doesn't wait, but asks the thread that holds the lock to send them.
+/// The state that the two halves of a connection share: the writer, and the bytes buffered for it. Bytes are written
+/// under a lock. A thread that writes, sends in a flush or ends the writer waits for the lock. A thread that sends the
+/// buffered bytes before it reads doesn't wait, but asks the thread that holds the lock to send them.
 #[derive(Drop)]
 pub struct Cork<W: WriteBoth + Drop> {
     flush_policy: Arc<FlushPolicy>,
@@ -90,9 +91,9 @@ impl<W: WriteBoth + Drop> Cork<W> {
         &self.flush_policy
     }
 
-    /// Makes each later flush send, and sends the bytes that were left. Doesn't wait for another thread, but may wait
-    /// for the socket: if another thread holds the lock, that thread is asked to send them. A fault is reported by the
-    /// next write, or by the next flush that sends.
+    /// Makes each later flush send its bytes, and sends the bytes that earlier flushes and writes left. May wait for
+    /// the socket, but not for another thread: if another thread holds the lock, asks that thread to send the bytes. A
+    /// fault is reported by the next write, or by the next flush that sends.
     pub fn send(&self) {
         if !self.flush_policy.stop_and_take() {
             return;
@@ -123,14 +124,14 @@ impl<W: WriteBoth + Drop> Cork<W> {
         }
     }
 
-    // Sends the buffered bytes if another thread has asked for it.
+    // Sends the buffered bytes if another thread has asked for that.
     fn send_if_asked<Rt: Wait>(&self, rt: &Rt) {
         if self.is_asked.load(Ordering::SeqCst) && self.is_asked.swap(false, Ordering::SeqCst) {
             self.corked.lock(rt).send_waiting();
         }
     }
 
-    // Takes some of these bytes, and returns their number. They stay buffered only if a flush may leave them.
+    // Takes some bytes of `buf`, and returns their number. They stay buffered only if a flush may leave them.
     fn write<Rt: Wait>(&self, rt: &Rt, buf: &[u8]) -> io::Result<usize>
         ensures { IfOk result (λ n. (n ≤ length buf.now) × (0 < length buf.now → 0 < n)) }
     {
@@ -145,7 +146,7 @@ impl<W: WriteBoth + Drop> Cork<W> {
         written
     }
 
-    // Sends the buffered bytes, unless they may be left.
+    // Sends the buffered bytes, unless a flush may leave them.
     fn flush<Rt: Wait>(&self, rt: &Rt) -> io::Result<()> {
         if self.flush_policy.leaves() {
             return Ok(());
@@ -155,7 +156,7 @@ impl<W: WriteBoth + Drop> Cork<W> {
         sent
     }
 
-    // Sends the buffered bytes, even if they may be left, and ends the writer.
+    // Sends the buffered bytes, even if a flush may leave them, and ends the writer.
     fn end<Rt: Wait>(&self, rt: &Rt) {
         let mut corked = self.corked.lock(rt);
         corked.send_waiting();
@@ -181,7 +182,7 @@ impl<W: WriteBoth + Drop, Rt: Wait> CorkedWriter<W, Rt> {
         &self.cork
     }
 
-    // Counts the fault of a call, if it failed.
+    // Counts a failure if the call failed, and records its kind.
     fn count<T>(&mut self, outcome: &io::Result<T>)
         ensures { CountsOutcome self.old self.new outcome.now }
     {
@@ -202,10 +203,10 @@ impl<W: WriteBoth + Drop, Rt: Wait> WriteDevice for CorkedWriter<W, Rt> {
         self.failures
     }
 
-    /// Takes some of these bytes, and returns their number. They stay buffered if a flush may leave them and they fit;
-    /// otherwise the buffered bytes are sent, with some of these. Also fails with an earlier fault in sending buffered
-    /// bytes, if no call has reported it. Once a fault has been reported, each write discards its bytes and returns
-    /// `Ok`.
+    /// Takes some bytes of `buf`, and returns their number. Buffers all of `buf` if a flush may leave its bytes and
+    /// they fit; otherwise sends the buffered bytes with some bytes of `buf`. Fails with the writer's fault, or with an
+    /// earlier fault in sending buffered bytes that no call has reported. Once a fault has been reported, each write
+    /// discards its bytes and returns `Ok`.
     fn write_out(&mut self, buf: &[u8]) -> Result<usize, io::Error> {
         let written = self.cork.write(&self.rt, buf);
         self.count(&written);
@@ -220,7 +221,7 @@ impl<W: WriteBoth + Drop, Rt: Wait> WriteDevice for CorkedWriter<W, Rt> {
         sent
     }
 
-    /// Sends the buffered bytes, even if they may be left, and ends the writer. Doesn't report a fault.
+    /// Sends the buffered bytes, even if a flush may leave them, and ends the writer. Doesn't report a fault.
     fn end_out(&mut self) {
         self.cork.end(&self.rt);
     }
@@ -233,17 +234,17 @@ struct Sending<W: WriteBoth + Drop> {
 }
 
 impl<W: WriteBoth + Drop> BeforeRead for Sending<W> {
-    // Contracts state nothing of this action, since the bytes are sent under a lock.
+    // Contracts state nothing about this action, since the bytes are sent under a lock.
     ghost does = { λ _ _. ⊤ };
 
-    /// Sends the buffered bytes, and makes each later flush send.
+    /// Sends the buffered bytes, and makes each later flush send its bytes.
     fn before_read(&mut self) {
         self.cork.send();
     }
 }
 
-/// The read half of a connection. Before it reads from the socket it sends the buffered bytes, and makes each later
-/// flush send.
+/// The read half of a connection. Before it reads from the socket, it sends the buffered bytes and makes each later
+/// flush send its bytes.
 #[derive(Drop)]
 pub struct FlushingReader<R: ReadDevice + Drop, W: WriteBoth + Drop> {
     ahead: ReadAhead<R>,

@@ -16,14 +16,14 @@ use tiny_http_io::device::{WriteDevice, put};
 /// The capacity of the buffer, in bytes.
 pub const ROOM: usize = 16_384;
 
-// Whether a writer takes bytes.
+// The state of a `Corked`: whether it takes bytes, and whether its fault has been reported.
 #[derive(Clone, Copy, Debug, PartialEq, Eq)]
 enum State {
     // The writer takes bytes.
     Open,
-    // The writer has failed with this kind, which the next write or flush reports.
+    // The inner writer has failed with a fault of this kind, which the next write or flush reports.
     Broken(ErrorKind),
-    // The writer has failed, and a call has reported it.
+    // The inner writer has failed, and a call has reported the fault.
     Ended,
 }
 
@@ -216,7 +216,7 @@ impl<W: WriteBoth> Corked<W> {
     }
 
     /// Sends the buffered bytes, and flushes the inner writer. The buffer is then empty. A fault isn't reported here,
-    /// but by the next write or flush. After a fault this does nothing.
+    /// but by the next write or flush. Does nothing after a fault.
     pub fn send_waiting(&mut self)
         ensures sends { SendsWaiting (corked_sink self.old) (corked_sink self.new) (unreported self.new) }
         ensures none { self.new.waiting ≡ [] }
@@ -245,8 +245,8 @@ impl<W: WriteBoth> WriteDevice for Corked<W> {
         self.failures
     }
 
-    /// Buffers all the bytes if they fit. Otherwise sends the buffered bytes with some of these. Fails with the inner
-    /// writer's fault, or, without taking a byte, with one that `send_waiting` met and no call has reported.
+    /// Buffers all bytes of `buf` if they fit. Otherwise sends the buffered bytes with some bytes of `buf`. Fails with
+    /// the inner writer's fault, or, without taking a byte, with one that `send_waiting` met and no call has reported.
     fn write_out(&mut self, buf: &[u8]) -> Result<usize, io::Error>
         ensures puts { PutsFront (corked_sink self.old) (corked_sink self.new) result buf.now }
         ensures fault { self.old.state ≡ Open
@@ -285,7 +285,7 @@ impl<W: WriteBoth> WriteDevice for Corked<W> {
     /// Ends the inner writer. If bytes are buffered, does nothing: the caller must send them first.
     fn end_out(&mut self)
         ensures sink { corked_sink self.new ≡ corked_sink self.old }
-        // The buffer is unchanged, and so is whether more bytes are taken.
+        // Only the inner writer changes.
         ensures rest { self.new ≡ record self.old { writer = self.new.writer } }
     {
         if self.waiting.is_empty() {

@@ -257,7 +257,7 @@ impl WriteDevice for RefinedTcpStream {
     }
 
     /// Shuts down the direction to the client, who then sees the end of input. The system's result is ignored. Dropping
-    /// this half, or a server that closes the connection, may shut the direction down again.
+    /// this half shuts the direction down again, as may a server that closes the connection.
     fn end_out(&mut self)
         ensures sink { stream_sink self.new ≡ stream_sink self.old }
         ensures unchanged { self.new ≡ self.old }

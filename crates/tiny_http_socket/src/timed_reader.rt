@@ -3,7 +3,7 @@ ghost use Rattle.std.specs.Prelude.{◌≡◌, ◌≤◌, length, Ok, IfOk};
 ghost use Rattle.tiny_http_socket.specs.Timed.{IsReportOf, IsLate};
 
 use crate::connection::Connection;
-use crate::connection_timers::{ConnectionTimers, Phase, fault_in_time};
+use crate::shared_state::{SharedState, Phase, fault_in_time};
 use std::io;
 use std::io::ErrorKind;
 use std::net::Shutdown;
@@ -24,16 +24,16 @@ pub struct TimedReader<R: ReadDevice + Drop, Rt: Clock> {
     rt: Rt,
     inner: R,
     socket: Arc<Connection>,
-    timers: Arc<ConnectionTimers>,
+    shared: Arc<SharedState>,
     // The read timeout that was set on the socket.
     timeout: Option<Duration>,
     // The number of requests handed out as of the last read.
     request: u64,
-    // When the time for the head after these requests began.
+    // When the time for the next head began, if it has begun.
     begun: Option<Duration>,
     // The progress of reading the body of the last request handed out.
     stall: Stall,
-    // Whether the time for the body of that request is over.
+    // Whether the time for the body of the last request handed out is over.
     is_late: bool,
 }
 
@@ -43,13 +43,13 @@ impl<R: ReadDevice + Drop, Rt: Clock> TimedReader<R, Rt> {
         rt: Rt,
         inner: R,
         socket: Arc<Connection>,
-        timers: Arc<ConnectionTimers>,
+        shared: Arc<SharedState>,
     ) -> TimedReader<R, Rt> {
         TimedReader {
             rt,
             inner,
             socket,
-            timers,
+            shared,
             timeout: None,
             request: 0,
             begun: None,
@@ -76,18 +76,18 @@ impl<R: ReadDevice + Drop, Rt: Clock> TimedReader<R, Rt> {
         }
     }
 
-    // Reads the first bytes of a head. Returns 0, the end of input, if none arrive for this time. The wait starts again
-    // if a request was open when it began.
+    // Reads the first bytes of a head. Returns 0, the end of input, if no byte arrives within this time. The wait
+    // starts again if a request was open when the wait began.
     fn read_first(&mut self, time: Duration, buf: &mut [u8]) -> io::Result<usize>
         ensures { IfOk result (λ n. n ≤ length buf.new) }
     {
         self.begun = None;
         self.wait_for(Some(time));
         for _ in 0..u64::MAX {
-            let had_open = self.timers.has_open();
+            let had_open = self.shared.has_open();
             match self.inner.read_in(buf) {
                 Ok(n) if n > 0 => {
-                    self.timers.head_began();
+                    self.shared.head_began();
                     return Ok(n);
                 }
                 Err(fault) if fault.kind() == ErrorKind::WouldBlock => {
@@ -98,7 +98,7 @@ impl<R: ReadDevice + Drop, Rt: Clock> TimedReader<R, Rt> {
                 read => return read,
             }
         }
-        self.timers.closed_by(Closing::Idle);
+        self.shared.closed_by(Closing::Idle);
         Ok(0)
     }
 
@@ -124,7 +124,7 @@ impl<R: ReadDevice + Drop, Rt: Clock> TimedReader<R, Rt> {
     fn head_is_late(&mut self) -> io::Result<usize>
         ensures { IsLate result }
     {
-        self.timers.closed_by(Closing::Head);
+        self.shared.closed_by(Closing::Head);
         Err(ErrorKind::TimedOut.into())
     }
 
@@ -173,22 +173,22 @@ impl<R: ReadDevice + Drop, Rt: Clock> TimedReader<R, Rt> {
     fn body_is_late(&mut self) -> io::Result<usize>
         ensures { IsLate result }
     {
-        self.timers.closed_by(Closing::Body);
+        self.shared.closed_by(Closing::Body);
         self.is_late = true;
         Err(ErrorKind::TimedOut.into())
     }
 
-    // Reads from an upgraded stream, and fails with `TimedOut` if no byte arrives for this time. The wait starts again
-    // if bytes were written meanwhile.
+    // Reads from an upgraded stream, and fails with `TimedOut` if no byte arrives within this time. The wait starts
+    // again if bytes were written meanwhile.
     fn read_stream(&mut self, time: Option<Duration>, buf: &mut [u8]) -> io::Result<usize>
         ensures { IfOk result (λ n. n ≤ length buf.new) }
     {
         self.wait_for(time);
-        self.timers.take_written();
+        self.shared.take_written();
         for _ in 0..u64::MAX {
             match self.inner.read_in(buf) {
                 Err(fault) if fault.kind() == ErrorKind::WouldBlock => {
-                    if !self.timers.take_written() {
+                    if !self.shared.take_written() {
                         break;
                     }
                 }
@@ -202,7 +202,7 @@ impl<R: ReadDevice + Drop, Rt: Clock> TimedReader<R, Rt> {
     fn stream_is_late(&mut self) -> io::Result<usize>
         ensures { IsLate result }
     {
-        self.timers.closed_by(Closing::Idle);
+        self.shared.closed_by(Closing::Idle);
         let _ = self.socket.shutdown(Shutdown::Both);
         Err(ErrorKind::TimedOut.into())
     }
@@ -225,14 +225,14 @@ impl<R: ReadDevice + Drop, Rt: Clock> ReadDevice for TimedReader<R, Rt> {
         if buf.is_empty() {
             return Ok(0);
         }
-        let Some(limits) = self.timers.limits() else {
+        let Some(limits) = self.shared.limits() else {
             return self.inner.read_in(buf);
         };
         let (first, head) = (limits.idle_time, limits.head_time);
         let (body, stream) = (limits.body_patience(), limits.stream_time);
-        let request = self.timers.requests();
+        let request = self.shared.requests();
         self.go_to(request);
-        match self.timers.phase() {
+        match self.shared.phase() {
             Phase::Between => self.read_first(first, buf),
             Phase::Head => self.read_head(head, buf),
             Phase::Body => self.read_body(body, buf),

@@ -2,7 +2,7 @@
 ghost use Rattle.std.specs.Prelude.{◌≡◌, ◌++◌, Ok, IfOk, IfErr};
 ghost use Rattle.std.specs.IoError.{error_kind};
 
-use crate::connection_timers::{ConnectionTimers, fault_in_time};
+use crate::shared_state::{SharedState, fault_in_time};
 use crate::refined_tcp_stream::RefinedTcpStream;
 use crate::write_both::WriteBoth;
 use std::io;
@@ -27,7 +27,7 @@ const STEP_MILLIS: u64 = 1_000;
 pub struct TimedWriter<Rt: Clock> {
     rt: Rt,
     socket: RefinedTcpStream,
-    timers: Arc<ConnectionTimers>,
+    shared: Arc<SharedState>,
     // How long writes may wait, if the connection has limits.
     patience: Option<Patience>,
     // Whether the client has been waited for; until then no time is counted.
@@ -50,8 +50,8 @@ impl<Rt: Clock> TimedWriter<Rt> {
     ghost use Rattle.tiny_http_socket.specs.Timed.{timed_sink, failed_sink, IsReportOf};
 
     /// Creates a writer to this half of a socket. Under limits it sets the socket's write timeout.
-    pub fn new(rt: Rt, socket: RefinedTcpStream, timers: Arc<ConnectionTimers>) -> TimedWriter<Rt> {
-        let patience = timers.limits().map(Limits::write_patience);
+    pub fn new(rt: Rt, socket: RefinedTcpStream, shared: Arc<SharedState>) -> TimedWriter<Rt> {
+        let patience = shared.limits().map(Limits::write_patience);
         if let Some(patience) = patience {
             let wait = step(patience.time).max(Duration::from_millis(1));
             let _ = socket.connection().set_write_timeout(wait);
@@ -59,7 +59,7 @@ impl<Rt: Clock> TimedWriter<Rt> {
         TimedWriter {
             rt,
             socket,
-            timers,
+            shared,
             patience,
             has_waited: false,
             stall: Stall::new(),
@@ -111,7 +111,7 @@ impl<Rt: Clock> TimedWriter<Rt> {
     {
         match written {
             Ok(n) => {
-                self.timers.wrote();
+                self.shared.wrote();
                 // If all bytes were taken, they are sent, however late.
                 if self.is_over(patience, asked, n) && n < asked.bytes {
                     self.end_late();
@@ -167,11 +167,11 @@ impl<Rt: Clock> TimedWriter<Rt> {
         ensures { timed_sink self.new ≡ timed_sink self.old }
     {
         self.is_late = true;
-        self.timers.closed_by(Closing::Write);
+        self.shared.closed_by(Closing::Write);
         let _ = self.socket.connection().shutdown(Shutdown::Both);
     }
 
-    // Counts the fault of a call, if it failed.
+    // Counts a failure if the call failed, and records its kind.
     fn count(&mut self, outcome: &io::Result<usize>)
         ensures taken { IfOk outcome.now (λ n. timed_sink self.new ≡ timed_sink self.old) }
         ensures fault { IfErr outcome.now (λ e. timed_sink self.new ≡ failed_sink self.old (error_kind e)) }
@@ -183,7 +183,7 @@ impl<Rt: Clock> TimedWriter<Rt> {
     }
 }
 
-// Returns how long one system call may wait if a write has this time.
+// Returns how long one system call may wait if a write may take this time.
 fn step(time: Duration) -> Duration {
     time.min(Duration::from_millis(STEP_MILLIS))
 }

@@ -127,16 +127,16 @@ HasOpenRequestLine bytes = HasNo line_feed (behind_empty_line bytes)
 abbrev pub HasOpenField : List ℕ → Type 0
 HasOpenField bytes = (rest : List ℕ) × ComesToField bytes rest × HasNo line_feed rest
 
--- how bytes are read. `ReadWhole`: as a complete head, with what follows it and the result of its validation.
--- `ReadBad`: as a malformed line. `ReadTooMany`: as a surplus field line. `ReadOpen`: as a line that hasn't ended,
--- either the request line (`false`) or a later one (`true`).
+-- a reading of bytes. `ReadWhole`: a complete head, with the bytes after it and the result of its validation.
+-- `ReadBad`: a malformed line. `ReadTooMany`: a surplus field line. `ReadOpen`: a line that hasn't ended, either the
+-- request line (`false`) or a later one (`true`).
 pub data Reading : Type 0 where
   ReadWhole : (message : Message) (after : List ℕ) (validated : Result HeadSummary HeadError) → Reading
   ReadBad : Reading
   ReadTooMany : Reading
   ReadOpen : (behind_request_line : Bool) → Reading
 
--- HOW BYTES ARE READ: whether this is the reading of the bytes
+-- THE READING OF BYTES: whether the bytes have this reading
 abbrev pub AreReadAs : List ℕ → Reading → Type 0
 AreReadAs bytes (ReadWhole m after validated) = BeginsWithHead bytes m after
     × Validates m.version m.method m.headers validated
@@ -159,7 +159,7 @@ status_of (Invalid UnknownExpectation) = 417
 abbrev pub message_of : StandardHead → Message
 message_of h = record { method = h.method; path = h.target; version = h.version; headers = h.headers.items }
 
--- whether a byte of a head has come, that is, a byte after at most one empty line
+-- whether a byte of a head has come; one empty line at the beginning doesn't count
 abbrev pub is_begun : List ℕ → Bool
 is_begun bytes = not (length (behind_empty_line bytes) == 0)
 

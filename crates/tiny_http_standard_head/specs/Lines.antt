@@ -80,7 +80,7 @@ ReadsRequestLine text method target v = (name : List ℕ) × RequestLine text na
 abbrev pub IsNoRequestLine : List ℕ → Type 0
 IsNoRequestLine text = (method : List ℕ) → (target : List ℕ) → (v : HTTPVersion) → RequestLine text method target v → ⊥
 
--- whether a byte above 127 is refused in this field before percent-encoding, whose result would be valid there
+-- whether bytes above 127 are refused in this field, because their percent-encoding would be valid there
 abbrev pub must_be_ascii : List ℕ → Bool
 must_be_ascii field = same_name field (codes "Host") || same_name field (codes "Transfer-Encoding")
 

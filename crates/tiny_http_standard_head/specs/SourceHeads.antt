@@ -73,7 +73,7 @@ abbrev pub IsUnfinished : NoHead → Type 0
 IsUnfinished (Unfinished has_begun) = ⊤
 IsUnfinished _ = ⊥
 
--- whether the result is that the source stopped before the end of the head
+-- whether the result is `Unfinished`: the source stopped before the end of the head
 abbrev pub IsUnfinishedRead : StandardRead → Type 0
 IsUnfinishedRead (read.Unfinished has_begun) = ⊤
 IsUnfinishedRead _ = ⊥
@@ -97,7 +97,7 @@ IsLong limit bytes = HasNo line_feed (take limit bytes) × (limit ≤ length byt
 abbrev pub IsShort : ℕ → List ℕ → Type 0
 IsShort limit bytes = HasNo line_feed bytes × (length bytes < limit)
 
--- The effect of reading a request line, or an empty line, on the limit and the feed.
+-- The effect on the limit and the feed of reading a request line or an empty line.
 abbrev pub ReadsRequest : ℕ → ℕ → Option Feed → Option Feed → Result (Option (Method × List ℕ × HTTPVersion)) NoHead
     → Type 0
 ReadsRequest limit left None new r = ⊤
@@ -111,7 +111,7 @@ ReadsRequest limit left (Some f) new (Err (Unfinished has_begun)) =
 ReadsRequest limit left (Some f) new (Err Memory) = ⊤
 ReadsRequest limit left (Some f) new (Err _) = ⊥
 
--- The effect of reading a field line, or the empty line, on the limit and the feed.
+-- The effect on the limit and the feed of reading a field line or the empty line.
 abbrev pub ReadsField : ℕ → ℕ → Option Feed → Option Feed → Result (Option Header) NoHead → Type 0
 ReadsField limit left None new r = ⊤
 ReadsField limit left (Some f) new (Ok None) = TakesText limit left f new []
@@ -143,7 +143,7 @@ LacksMemoryAtStart limit f new held =
     × HasNo line_feed (behind_empty_line gone)
     × (behind_empty_line gone ≡ [] → HasNo line_feed (take (limit - length gone) held)))
 
--- The effect of reading the request line, after at most one empty line, on the limit and the feed.
+-- The effect on the limit and the feed of reading the request line, after at most one empty line.
 abbrev pub ReadsStart : ℕ → ℕ → Option Feed → Option Feed → Result (Method × List ℕ × HTTPVersion) NoHead → Type 0
 ReadsStart limit left None new r = ⊤
 ReadsStart limit left (Some f) new (Ok r) =
@@ -169,7 +169,7 @@ HasReadFields limit left (Some f) new headers =
     × (new ≡ feed_from f rest)
     × IsSpent limit f.bytes left rest
 
--- The effect of reading all field lines and the empty line on the limit and the feed.
+-- The effect on the limit and the feed of reading all field lines and the empty line.
 abbrev pub ReadsFields : ℕ → ℕ → Option Feed → Option Feed → Result (Vec Header) NoHead → Type 0
 ReadsFields limit left None new r = ⊤
 ReadsFields limit left (Some f) new (Ok headers) =

@@ -1,5 +1,5 @@
--- What a complete head says, and the order of its validation (RFC 9112, sections 3.2, 6 and 9.3; RFC 9110, sections
--- 7.8, 10.1.1 and 15).
+-- The meaning of a complete head, and the order of its validation (RFC 9112, sections 3.2, 6 and 9.3; RFC 9110,
+-- sections 7.8, 10.1.1 and 15).
 use Rattle.std.specs.Prelude.{◌≡◌, ◌≢◌, ℕ, ◌⊎◌, Bool, true, false, not, ◌&&◌, ◌||◌, ◌==◌, nat_lt, List, [], ◌∷◌, ◌++◌}
 use Rattle.std.specs.Prelude.{Option, Some, None, Result, Ok, Err, IsTrue, IsFalse, codes}
 use Rattle.std.specs.List.{list_all}

@@ -1,4 +1,4 @@
--- What a complete head says, computed element by element.
+-- The meaning of a complete head, computed element by element.
 use Rattle.std.specs.Prelude.{ℕ, Bool, true, false, ◌||◌, List, [], ◌∷◌, Option, None, is_some, Result}
 use Rattle.std.specs.Prelude.{Ok, Err, codes, if◌then◌else◌}
 use Rattle.std.specs.Str.{bytes_eq}
@@ -15,7 +15,7 @@ use Rattle.tiny_http_standard_head.specs.declared.validation.HeadError.TheVarian
 use Rattle.tiny_http_standard_head.specs.Validation.{is_chunked, is_unknown_expectation, is_protocol, is_1_0}
 use Rattle.tiny_http_standard_head.specs.Te.{element_asks_chunked}
 
--- whether the element is what is wanted
+-- whether the element is of the wanted kind
 abbrev pub is_wanted : Wanted → List ℕ → Bool
 is_wanted Close element = same_name element (codes "close")
 is_wanted KeepAlive element = same_name element (codes "keep-alive")

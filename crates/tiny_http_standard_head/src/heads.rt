@@ -26,7 +26,7 @@ pub struct StandardHead {
     pub version: HTTPVersion,
     /// The header fields, in order.
     pub headers: Vec<Header>,
-    /// What the head says about its body and the connection.
+    /// A summary of what the head says about its body and the connection.
     pub summary: HeadSummary,
     /// The length of the head in bytes, including the empty line that ends it, and an empty line before it if there was
     /// one.

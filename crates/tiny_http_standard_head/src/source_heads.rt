@@ -236,7 +236,7 @@ fn without_head(why: NoHead) -> Result<StandardRead, AllocError>
     }
 }
 
-/// Reads the next head of a source, with at most `limit` bytes and `MOST_HEADERS` field lines. The result is that of
+/// Reads the next head from a source, with at most `limit` bytes and `MOST_HEADERS` field lines. The result is that of
 /// `heads::read_head` on all bytes still to come from the source. No byte after the head is consumed; one call to the
 /// reader may have buffered some. A line that is whole in the buffer is parsed in place. A malformed or surplus line is
 /// refused as soon as its LF has come. `Unfinished` means that the source stopped before the end of the head, and is

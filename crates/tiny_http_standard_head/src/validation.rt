@@ -1,5 +1,5 @@
-//! Validation of complete heads, and what they say (RFC 9112, sections 3.2, 6 and 9.3; RFC 9110, sections 7.8, 10.1.1
-//! and 15), including whether a client asks for chunks (RFC 9110, section 10.1.4).
+//! The validation of complete heads, and their meaning (RFC 9112, sections 3.2, 6 and 9.3; RFC 9110, sections 7.8,
+//! 10.1.1 and 15), including whether a client asks for chunks (RFC 9110, section 10.1.4).
 ghost use Rattle.std.specs.Prelude.{◌≡◌, ◌↔◌, ◌==◌, not, IsTrue, IsFalse, IfSome, IfNone, codes};
 ghost use Rattle.std.specs.List.{list_all, list_any};
 ghost use Rattle.httparse.specs.Grammar.{is_ows};
@@ -23,7 +23,7 @@ use tiny_http_head::common::{HTTPVersion, Header, Method};
 use tiny_http_head::content_length::one_length;
 use tiny_http_text::bytes::{cut, is};
 
-/// What a head says about its body and the connection.
+/// A summary of what a head says about its body and the connection.
 #[derive(Clone, Copy, Debug, PartialEq, Eq)]
 pub struct HeadSummary {
     /// The value of `Content-Length`, if there is one. There is no body if it is `Some(0)`, or if it is `None` and
@@ -62,7 +62,7 @@ pub enum HeadError {
     UnknownExpectation,
 }
 
-// What to look for in a list.
+// The kind of element to look for in a list.
 #[derive(Clone, Copy)]
 enum Wanted {
     Close,
@@ -169,7 +169,7 @@ fn element_asks_chunked(element: &[u8]) -> bool
     is_chunked(trim_space_and_tab(coding)) && !has_zero_weight(parameters)
 }
 
-// Returns whether the element is what is wanted.
+// Returns whether the element is of the wanted kind.
 fn is_wanted(wanted: Wanted, element: &[u8]) -> bool
     ensures { result ≡ is_wanted wanted element.now }
 {
@@ -185,7 +185,7 @@ fn is_wanted(wanted: Wanted, element: &[u8]) -> bool
     }
 }
 
-// Returns whether some element of the value is what is wanted.
+// Returns whether some element of the value is of the wanted kind.
 fn has_in(value: &str, wanted: Wanted) -> bool
     ensures { result ≡ list_any (is_wanted wanted) (between_commas value.now) }
 {
@@ -197,7 +197,7 @@ fn has_in(value: &str, wanted: Wanted) -> bool
     false
 }
 
-// Returns whether some element of the fields of this name is what is wanted.
+// Returns whether some element of the fields with this name is of the wanted kind.
 fn has(headers: &[Header], name: &str, wanted: Wanted) -> bool
     ensures { result ≡ has_element_that name.now (is_wanted wanted) headers.now }
 {

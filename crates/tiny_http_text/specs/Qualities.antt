@@ -34,9 +34,9 @@ FirstQuality [] q = q ≡ 1000
 FirstQuality (parameter ∷ more) q =
     GivesQuality parameter q ⊎ (((n : ℕ) → GivesQuality parameter n → ⊥) × FirstQuality more q)
 
--- whether the text is an element with this name and a quality of q thousandths: of its parts, which semicolons
--- separate, the first, without white space at its ends, is the name; the others are parameters, and the first of them
--- that gives a quality gives q, or q is 1000 if none does
+-- whether the text is a list element with this name and a quality of q thousandths. Semicolons separate its parts. The
+-- first part, without white space at its ends, is the name; the others are parameters. The first parameter that gives a
+-- quality gives q; if none does, q is 1000.
 pub record Element (text name : List ℕ) (q : ℕ) : Type 0 where
   pub padded : List ℕ
   pub parameters : List (List ℕ)
@@ -51,6 +51,6 @@ Elements [] (e ∷ es) = ⊥
 Elements (text ∷ texts) [] = ⊥
 Elements (text ∷ texts) (e ∷ es) = Element text e.0 e.1 × Elements texts es
 
--- whether the parts of the value, which commas separate, are elements with these names and qualities, in order
+-- whether the comma-separated parts of the value are elements with these names and qualities, in order
 abbrev pub ListsQualities : List ℕ → List (List ℕ × ℕ) → Type 0
 ListsQualities value list = Elements (parts comma value) list

@@ -69,8 +69,8 @@ impl<'a> Model for AsciiStr<'a> {
     ghost invariant = { λ s. IsAscii s.text.now };
 }
 
-/// The error of `AsciiString::from_ascii` for bytes that aren't ASCII. It holds the bytes and the position of the first
-/// byte above 127.
+/// The error that `AsciiString::from_ascii` returns for bytes that aren't ASCII. It holds the bytes and the position of
+/// the first one above 127.
 #[derive(Debug, Drop, Error)]
 #[error("the byte at place {place} is not ASCII")]
 pub struct FromAsciiError {
@@ -114,7 +114,7 @@ fn ascii_len(bytes: &[u8]) -> usize
 }
 
 impl ShortBytes {
-    // Copies at most 30 bytes.
+    // Copies the bytes into an inline array. The caller passes at most 30.
     fn copied(bytes: &[u8]) -> ShortBytes
         requires { length bytes.now ≤ 30 }
         ensures { take result.len result.bytes ≡ bytes.now }
@@ -174,7 +174,8 @@ impl TextBytes {
 impl AsciiString {
     ghost use Rattle.tiny_http_text.specs.FromAsciiError.{refused_bytes, bad_place};
 
-    /// Makes a string from bytes that are all below 128. For other bytes it fails, and the error holds them.
+    /// Makes a string from bytes that are all below 128, without copying them. Fails with an error that holds the bytes
+    /// if one of them is above 127.
     pub fn from_ascii(bytes: Vec<u8>) -> Result<AsciiString, FromAsciiError>
         ensures ok { IfOk result (λ s. s ≡ bytes.items) }
         ensures succeeds { IsOk result ↔ IsAscii bytes.items }

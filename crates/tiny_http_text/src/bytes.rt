@@ -75,7 +75,7 @@ pub fn cut(text: &[u8], c: u8) -> Option<(&[u8], &[u8])>
     Some((&text[..i], &text[i + 1..]))
 }
 
-/// Returns whether the text has exactly the bytes of `word`.
+/// Returns whether the text equals `word`, byte for byte.
 pub fn is(text: &[u8], word: &str) -> bool
     ensures { result ≡ bytes_eq text.now word.now }
 {

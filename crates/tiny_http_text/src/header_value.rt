@@ -84,8 +84,8 @@ fn parameter_quality(parameter: &str) -> Option<u32>
     quality(trim(padded))
 }
 
-// Returns the first readable quality, in thousandths, among the parameters, which semicolons separate, or 1000 if there
-// is none.
+// Returns the first readable quality, in thousandths, among the semicolon-separated parameters, or 1000 if there is
+// none.
 fn first_quality(parameters: &str) -> u32
     ensures { result ≡ first_quality (parts semicolon parameters.now) }
 {
@@ -101,7 +101,7 @@ fn first_quality(parameters: &str) -> u32
 
 /// Parses one list element, the text between two commas, into its name and its quality in thousandths.
 ///
-/// It follows the rules of `parse_header_value` and allocates nothing.
+/// The rules are those of `parse_header_value`. Nothing is allocated.
 pub fn parse_element(text: &str) -> (&str, u32)
     ensures computed { (result.0.now, result.1) ≡ element text.now }
     ensures element { Element text.now result.0.now result.1 }
@@ -119,7 +119,7 @@ pub fn parse_element(text: &str) -> (&str, u32)
 /// and 32) at its ends; the name of an empty element is empty. The quality of the name is that of the first parameter
 /// that begins, after optional white space, with `q=` and has a readable number: one to six digits, then optionally a
 /// point and at most three digits, with optional white space around the number. If there is no such parameter, the
-/// quality is 1000. The original crate accepts other forms of numbers. Fails if memory for the list is refused.
+/// quality is 1000. The Rust crate accepts other forms of numbers. Fails if memory for the list is refused.
 pub fn parse_header_value(alloc: Global, value: &str) -> Result<Vec<(&str, u32)>, AllocError>
     ensures { IfOk result (λ list. ListsQualities value.now (map (λ e. (e.0.now, e.1)) list.items)) }
 {

@@ -7,7 +7,7 @@ use std::marker::Model;
 // The number of decimal digits of the greatest `u64`. Larger bases need fewer.
 const MOST_DIGITS: usize = 20;
 
-/// The digits of a number, in ASCII and in an inline buffer. A contract sees a `Numeral` as the list of these bytes.
+/// The ASCII digits of a number, stored inline. A contract sees a `Numeral` as the list of these bytes.
 #[derive(Drop)]
 pub struct Numeral {
     buffer: [u8; 20],

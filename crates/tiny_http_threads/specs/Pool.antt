@@ -35,7 +35,7 @@ module _ {J : Type 0} where
       × (new ≡ record old { running = old.running + 1 })
   Offers old job (Back same) new = (same ≡ job) × (old.idle ≤ length old.jobs → old.running ≡ 2 ^ 64 - 1) × (new ≡ old)
 
-  -- whether a pool counts one running worker less, or, if all workers that run are idle, is unchanged
+  -- whether a pool counts one fewer running worker, or, if all workers that run are idle, is unchanged
   abbrev pub NotStarted : Pool J → Pool J → Type 0
   NotStarted old new = (old.idle < old.running → new ≡ record old { running = old.running - 1 })
       × (old.running ≤ old.idle → new ≡ old)

@@ -10,8 +10,8 @@ module _ {T : Type 0} where
   Pops old Unblocked new = old ≡ None ∷ new
   Pops old Empty new = (old ≡ []) × (new ≡ [])
 
-  -- what a pop of a shared queue returns, given what it found: the value, or `None` for an unblock mark or an empty
-  -- queue
+  -- the result of a pop of a shared queue, given what the pop found: the value, or `None` for an unblock mark or an
+  -- empty queue
   abbrev pub popped_value : Popped T → Option T
   popped_value (Value x) = Some x
   popped_value Unblocked = None

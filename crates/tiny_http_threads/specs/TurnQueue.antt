@@ -23,11 +23,11 @@ pub record TurnQueueView (T W C : Type 0) : Type 0 where
   pub counter : Option C
   pub wants_room : Bool
 
--- whether it is the turn of this number: it is open, and the first unfinished one
+-- whether it is the turn of this number: the number is open, and is the first unfinished one
 abbrev pub IsItsTurn : List Mark → ℕ → Type 0
 IsItsTurn marks n = (slice_get marks n ≡ Some Open) × (n ≡ first_unfinished marks)
 
--- what wakes the thread of this number, if the number waits
+-- the waker of the thread of this number, if the number waits
 abbrev pub waker : {W : Type 0} → List (ℕ × W) → ℕ → Option W
 waker waiting n = lookup (is_at (nat_cmp n)) waiting
 
@@ -64,8 +64,8 @@ taken_item (Held item) = Some item
 taken_item (IsWaiting woken) = None
 taken_item Refused = None
 
--- Whether a number that must wait is listed afterwards, and stays as it was if it was listed before; if the number
--- needn't wait or is refused, nothing changes. No clause states that its thread waits on the listed condition: to
+-- Whether a number that must wait is listed afterwards. Nothing changes if the number was listed before, needn't wait
+-- or is refused; no other number is affected. No clause states that its thread waits on the listed condition: to
 -- contracts all conditions are equal.
 abbrev pub ListsWaiter : {T : Type 0} → Taking T → ℕ → List (ℕ × Arc Condvar Global) → List (ℕ × Arc Condvar Global)
     → Type 0

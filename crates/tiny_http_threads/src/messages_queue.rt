@@ -10,7 +10,7 @@ use std::marker::Model;
 use std::sync::{Arc, Condvar, Mutex, Wait};
 use std::time::{Clock, Duration, Instant};
 
-/// What a pop found at the front of a queue.
+/// The result of popping the front of a queue.
 #[derive(Debug, PartialEq, Eq, Drop)]
 pub enum Popped<T> {
     /// A value.
@@ -67,7 +67,7 @@ impl<T: Drop> QueueState<T> {
     }
 }
 
-// Without `T: Drop` a value can't be dropped, so none of these calls can lose one.
+// Without `T: Drop` a value can't be dropped, so none of these calls can lose a value.
 impl<T> QueueState<T> {
     ghost use Rattle.tiny_http_threads.specs.Queue.{Pops};
 

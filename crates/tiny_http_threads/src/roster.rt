@@ -75,7 +75,7 @@ impl<L: Ledger> Roster<L> {
         requires { 0 < mine.old.parts }
         ensures amount { mine.new.amount ≡ (if result then mine.old.amount + 1 else mine.old.amount) }
         ensures parts { mine.new.parts ≡ mine.old.parts }
-        // To a caller that holds the whole share, a false result states that the number is 2^64 - 1.
+        // To a caller that holds the whole share, a false result means that the number is 2^64 - 1.
         ensures full { result ≡ false → mine.old.parts ≡ L.parts → mine.old.amount ≡ 2 ^ 64 - 1 }
     {
         self.entries.lock(rt).enter(mine)

@@ -190,7 +190,7 @@ struct Writing<W, R: Wait> {
 }
 
 impl<W: Write + Drop, R: Wait + Drop> HeldTurn<(), ()> for Writing<W, R> {
-    // Clauses state nothing of it: what passes from thread to thread under a lock isn't visible to contracts.
+    // The clauses state nothing: what passes from thread to thread under a lock isn't visible to contracts.
     ghost writes = { λ _ _ _ _ _. ⊤ };
 
     ghost finishes = { λ _ _ _ _ _. ⊤ };
@@ -214,7 +214,7 @@ struct EndingWriter<W, R: Wait> {
 }
 
 impl<W: Write + WriteDevice + Drop, R: Wait + Drop> HeldTurn<(), ()> for EndingWriter<W, R> {
-    // Clauses state nothing of it: what passes from thread to thread under a lock isn't visible to contracts.
+    // The clauses state nothing: what passes from thread to thread under a lock isn't visible to contracts.
     ghost writes = { λ _ _ _ _ _. ⊤ };
 
     ghost finishes = { λ _ _ _ _ _. ⊤ };
@@ -299,7 +299,8 @@ impl<W: Write + Drop, R: Wait + Drop> SequentialWriter<W, R> {
 impl<W: Write + WriteDevice + Drop, R: Wait + Drop> SequentialWriter<W, R> {
     /// Ends its turn with a text, which is written and flushed once the turn has come. Doesn't wait for any turn. After
     /// the text of the last writer (`is_last`) `end_out` ends the output, even if the queue was closed after this call,
-    /// but before the text is written. It doesn't if the drop of an earlier `SequentialWriter` writes the text.
+    /// but before the text is written. If the drop of an earlier `SequentialWriter` writes the text, the output isn't
+    /// ended.
     #[doc(hidden)]
     pub fn leave(self, text: Vec<u8>) {
         let Self { turn, failures: _ } = self;
@@ -345,7 +346,7 @@ impl<W: WriteDevice + Drop, R: Wait + Drop> SequentialWriter<Outlet<W>, R> {
         sent
     }
 
-    /// Ends the connection after what was sent if the output has ended: `end_out` ends the inner writer, and
+    /// If the output has ended, ends the connection after what was sent: `end_out` ends the inner writer, and
     /// `next_unless_closed` creates no more writers. Waits for its turn. Does nothing, and doesn't wait, unless
     /// `close_when_broken` was called.
     #[doc(hidden)]

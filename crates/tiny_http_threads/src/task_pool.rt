@@ -12,10 +12,11 @@ use std::thread::Threads;
 use std::time::{Clock, Duration};
 use std::{io, thread};
 
-/// The number of workers that a pool keeps even if they are idle (as in the Rust crate).
+/// The number of workers that a pool keeps even if they are idle (as in the Rust crate `tiny_http`).
 pub const MIN_THREADS: usize = 4;
 
-/// How long a worker beyond `MIN_THREADS` may be idle before it ends, in milliseconds (as in the Rust crate).
+/// How long a worker beyond `MIN_THREADS` may be idle before it ends, in milliseconds (as in the Rust crate
+/// `tiny_http`).
 pub const IDLE_MILLIS: u64 = 5000;
 
 /// A job for a worker.
@@ -94,8 +95,8 @@ impl<J> PoolState<J> {
         Offered::Start(job)
     }
 
-    /// Counts one running worker less, since the worker that `offer` counted couldn't be started. Changes nothing if
-    /// all workers that run are idle.
+    /// Decrements the number of running workers, since the worker that `offer` counted couldn't be started. Changes
+    /// nothing if all workers that run are idle.
     pub fn not_started(&mut self)
         ensures sound { IsSound self.new }
         ensures not_started { NotStarted self.old self.new }
@@ -176,7 +177,7 @@ impl<J> PoolState<J> {
     }
 }
 
-// What the pool and its workers share.
+// The state that the pool and its workers share.
 #[derive(Drop)]
 struct Sharing<J> {
     state: Mutex<PoolState<J>>,
@@ -204,8 +205,7 @@ impl<J: Job + Drop> Sharing<J> {
             return Some(job);
         }
         if !state.rest() {
-            // Unreachable: this worker isn't idle, so fewer workers are idle than run. A worker that isn't counted
-            // ends.
+            // Unreachable: no job waits, and this worker isn't idle, so fewer workers are idle than run.
             return None;
         }
         for _ in rt.forever() {

@@ -70,8 +70,9 @@ impl<T> Model for TurnQueueState<T> {
     }) };
 }
 
-// Lists a number as waiting, and returns the condition that wakes its thread. No clause states that it is the listed
-// condition, since to contracts all conditions are equal. Fails if memory is refused, and then changes nothing.
+// Lists a number as waiting, and returns the condition that wakes its thread. No clause states that the returned
+// condition is the listed one, since to contracts all conditions are equal. Fails if memory is refused, and then
+// changes nothing.
 fn list_waiter(
     waiters: &mut BTreeMap<u64, Arc<Condvar>>,
     alloc: Global,
@@ -295,8 +296,8 @@ impl<T: Drop> TurnQueue<T> {
         share(alloc, TurnQueueState::new(alloc, item)?)
     }
 
-    /// Issues the next number, and returns it, and whether its turn has come. Fails if memory is refused, or no number
-    /// is left.
+    /// Issues the next number. Returns the number, and whether its turn has come. Fails if memory is refused, or no
+    /// number is left.
     pub fn issue<R: Wait>(&self, rt: &R) -> Result<(u64, bool), AllocError> {
         let mut state = self.state.lock(rt);
         let number = state.issue()?;
@@ -564,7 +565,7 @@ impl<T: Drop, R: Wait + Drop> Held<T, R> {
         Ok(Held { item, place })
     }
 
-    /// Returns another handle to its queue. Fails if 2^63 - 1 handles exist.
+    /// Returns another handle to the queue. Fails if 2^63 - 1 handles exist.
     pub(crate) fn queue(&self) -> Result<Arc<TurnQueue<T>>, AllocError> {
         Ok(Arc::try_clone(&self.place.queue)?)
     }

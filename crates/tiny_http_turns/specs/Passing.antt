@@ -2,7 +2,7 @@
 use Rattle.std.specs.Prelude.{◌≡◌, ℕ, zero, suc, ◌^◌, ◌⊎◌, List, Option, Some, None}
 use Rattle.std.specs.Global.{Vec}
 
--- a held number, what keeps the numbers, and the output
+-- a held number, the value that keeps the numbers, and the output
 pub record Holds (T N O : Type 0) : Type 0 where
   pub turn : T
   pub numbers : N
@@ -29,8 +29,8 @@ abbrev pub FinishesOne : {T N O : Type 0} → FinishesNumber T N → Holds T N O
 FinishesOne finishes here left there =
     finishes here.turn here.numbers left there.turn there.numbers × (there.output ≡ here.output)
 
--- whether this text was written, then those that were left for the next n numbers, each once the number before it was
--- finished
+-- whether this text was written, and then those that were left for the next n numbers, each after the number before it
+-- was finished
 abbrev pub WritesTexts : {T N O : Type 0} → Writes T O → FinishesNumber T N → ℕ → Holds T N O → List ℕ → Holds T N O
     → Type 0
 WritesTexts writes finishes zero here text there = WritesText writes here text there

@@ -44,7 +44,7 @@ AreOpenOrLeft (Held ∷ marks) = ⊥
 AreOpenOrLeft (Left text ∷ marks) = AreOpenOrLeft marks
 AreOpenOrLeft (Finished ∷ marks) = ⊥
 
--- whether finished numbers come first, of the others only the first may be held, and no text is left for that first one
+-- whether the finished numbers come first, only the first of the others may be held, and no text is left for that one
 abbrev pub AreInShape : List Mark → Type 0
 AreInShape [] = Unit {0}
 AreInShape (Open ∷ marks) = AreOpenOrLeft marks
@@ -73,7 +73,7 @@ pub data TurnStep : Type 0 where
   Finish : (number : ℕ) → TurnStep
   Leave : (number : ℕ) → (text : List ℕ) → TurnStep
 
--- what a step reports
+-- the report of a step
 pub data TurnAnswer : Type 0 where
   -- the number was issued
   Issued : (number : ℕ) → TurnAnswer
@@ -90,7 +90,7 @@ pub data TurnAnswer : Type 0 where
   -- the number isn't in the right state, its turn hasn't come, or it was never issued; nothing has changed
   Strange : TurnAnswer
 
--- what a step reports, and the marks after it
+-- the report of a step, and the marks after the step
 abbrev pub TurnOutcome : Type 0
 TurnOutcome = TurnAnswer × List Mark
 
@@ -119,8 +119,8 @@ pass_to (Some Held) k marks = (Passed, marks)
 pass_to (Some (Left text)) k marks = (Goes k text, slice_set marks k Held)
 pass_to (Some Finished) k marks = (Passed, marks)
 
--- whether the returned text is the one that this step reports for number `at`, or none was returned and it reports
--- `Passed`
+-- whether the returned text is the one that this step reports for number `at`, or no text was returned and the step
+-- reports `Passed`
 abbrev pub ReportsPass : TurnAnswer → ℕ → Option (Vec ℕ) → Type 0
 ReportsPass (Goes number text) at (Some with) = (number ≡ at) × (with.items ≡ text)
 ReportsPass Passed at None = Unit {0}
@@ -146,7 +146,7 @@ leave_at (Some Held) k text marks = (Strange, marks)
 leave_at (Some (Left was)) k text marks = (Strange, marks)
 leave_at (Some Finished) k text marks = (Strange, marks)
 
--- the outcome of a step: what it reports, and the marks after it
+-- the outcome of a step: its report, and the marks after the step
 abbrev pub turn_outcome : TurnStep → List Mark → TurnOutcome
 turn_outcome Issue marks = (Issued (length marks), marks ++ Open ∷ [])
 turn_outcome (Take k) marks = take_at (slice_get marks k) k marks

@@ -1,4 +1,4 @@
--- What the calls of `Turns` return and change, in terms of the steps of the turn machine.
+-- The results and effects of the calls to `Turns`, in terms of the steps of the turn machine.
 use Rattle.std.specs.Global.{Vec}
 use Rattle.std.specs.Prelude.{◌≡◌, ℕ, [], Option, Some, None, IsSome, Result, Ok, Err}
 use Rattle.tiny_http_turns.specs.Turns.{TurnsState, TurnAnswer, Taken, Opened, Passed, Waits, Goes, Strange}
@@ -14,7 +14,7 @@ module _ {T : Type 0} where
   abbrev pub new_turns : T → TurnsState T
   new_turns item = record { marks = []; resting = Some item }
 
-  -- the effect of `take`, according to what the step reports. `Taken`: the item was returned, and is no longer stored.
+  -- the effect of `take`, according to what the step reports. `Taken`: the stored item was taken out and returned.
   -- `Strange`: `None` was returned, and nothing has changed.
   abbrev pub TakesTurn : TurnAnswer → Option T → Option T → Option T → Type 0
   TakesTurn Taken old result new = (result ≡ old) × IsSome result × (new ≡ None)
@@ -37,7 +37,7 @@ module _ {T : Type 0} where
   Finishes _ item old result new = ⊥
 
   -- the effect of `leave`, according to what the step reports. `Waits`: the text was kept. `Goes`: the text was
-  -- returned with the item, which is no longer stored. `Strange`: the text was returned, and nothing has changed.
+  -- returned with the stored item, which was taken out. `Strange`: the text was returned, and nothing has changed.
   abbrev pub LeavesTurn : TurnAnswer → Option T → Leaving T → Option T → Type 0
   LeavesTurn Waits old IsLeft new = new ≡ old
   LeavesTurn (Goes number text) old (LeaveGo item back) new = (old ≡ Some item) × (back.items ≡ text) × (new ≡ None)

@@ -1,4 +1,4 @@
--- What holds after every list of steps.
+-- The definitions of the law of turns, over lists of steps.
 use Prim.Native.Nat.{zero, suc}
 use Rattle.std.specs.Prelude.{ℕ, List, [], ◌∷◌, ◌++◌, Option, Some, None, ◌==◌, if◌then◌else◌}
 use Rattle.std.specs.List.{list_any}

@@ -96,7 +96,7 @@ impl<T: Drop> ByNumber<T> {
     }
 
     /// Replaces the value under a number with `value`, or removes it if `value` is `None`, and returns the old value.
-    /// If the number has no value, it returns `None`, nothing changes, and the new value is dropped.
+    /// Returns `None`, drops `value` and changes nothing if the number has no value.
     #[inline(always)]
     pub fn replace(&mut self, number: u64, value: Option<T>) -> Option<T>
         ensures some { IfSome result (λ was. (slice_get self.old number ≡ Some (Some was))
@@ -110,8 +110,8 @@ impl<T: Drop> ByNumber<T> {
     }
 }
 
-// Replaces the value at this index with `value`, or removes it if `value` is `None`, and returns the old value. If
-// there is no value at this index, it returns `None`, nothing changes, and the new value is dropped.
+// Replaces the value at this index with `value`, or removes it if `value` is `None`, and returns the old value. Returns
+// `None`, drops `value` and changes nothing if there is no value at this index.
 #[inline(always)]
 fn exchange<T: Drop>(kept: &mut VecDeque<Option<T>>, at: usize, value: Option<T>) -> Option<T>
     ensures some { IfSome result (λ was. (slice_get kept.old.items at ≡ Some (Some was))

@@ -11,8 +11,8 @@ pub trait HeldTurn<N, O> {
     ghost writes: { Self → O → List ℕ → Self → O → Type 0 };
 
     /// The effect of finishing the number, as a relation between the turn and the numbers before it, the text that was
-    /// left for the next number, if one was, and the turn and the numbers after it. With such a text the next number is
-    /// held now.
+    /// left for the next number, if one was, and the turn and the numbers after it. If there is such a text, the next
+    /// number is then held.
     ghost finishes: { Self → N → Option (Bytes ℕ) → Self → N → Type 0 };
 
     /// Writes a text in the turn. Faults are not reported.
@@ -26,8 +26,8 @@ pub trait HeldTurn<N, O> {
 }
 
 /// Writes the text of a held number and finishes that number, then does the same for each number directly after it for
-/// which a text was left. It allocates nothing itself. It stops once it has written the texts of 2^64 further numbers,
-/// the last of which is then still held.
+/// which a text was left. The function itself allocates nothing. It stops once it has written the texts of 2^64 further
+/// numbers, the last of which is then still held.
 pub fn pass_on<N, O, T: HeldTurn<N, O>>(
     turn: &mut T,
     numbers: &mut N,

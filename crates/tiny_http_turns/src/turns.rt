@@ -118,8 +118,8 @@ impl<T: Drop> Turns<T> {
         }
     }
 
-    /// Holds the number and returns the item, if the number is open and is the first unfinished one. Otherwise it
-    /// returns `None` and changes nothing.
+    /// Holds the number and returns the item, if the number is open and is the first unfinished one. Otherwise returns
+    /// `None` and changes nothing.
     pub fn take(&mut self, number: u64) -> Option<T>
         ensures in_order { IsInOrder self.new }
         ensures marks { self.new.marks ≡ marks_after_step (Take number) self.old.marks }
@@ -135,8 +135,7 @@ impl<T: Drop> Turns<T> {
         }
     }
 
-    /// Reopens a held number and stores the item. For a number that isn't held, it returns the item and changes
-    /// nothing.
+    /// Reopens a held number and stores the item. Fails with the item, and changes nothing, if the number isn't held.
     pub fn put_back(&mut self, number: u64, item: T) -> Result<(), T>
         ensures in_order { IsInOrder self.new }
         ensures marks { self.new.marks ≡ marks_after_step (PutBack number) self.old.marks }
@@ -159,7 +158,7 @@ impl<T: Drop> Turns<T> {
     }
 
     /// Finishes a held number. If a text was left for the next number, holds the next number and returns the text with
-    /// the item; otherwise stores the item. For a number that isn't held, it returns the item and changes nothing.
+    /// the item; otherwise stores the item. Returns the item and changes nothing if the number isn't held.
     pub fn finish(&mut self, number: u64, item: T) -> Finishing<T>
         ensures in_order { IsInOrder self.new }
         ensures marks { self.new.marks ≡ marks_after_step (Finish number) self.old.marks }
@@ -183,7 +182,7 @@ impl<T: Drop> Turns<T> {
     }
 
     /// Leaves a text for an open number. If the number's turn has come, holds the number instead and returns the text
-    /// with the item. For a number that isn't open, it returns the text and changes nothing.
+    /// with the item. Returns the text and changes nothing if the number isn't open.
     pub fn leave(&mut self, number: u64, text: Vec<u8>) -> Leaving<T>
         ensures in_order { IsInOrder self.new }
         ensures marks { self.new.marks ≡ marks_after_step (Leave number text.items) self.old.marks }

@@ -21,10 +21,10 @@ use websocket::handshake::server::accept_key;
 /// The result of a handshake.
 #[derive(Drop)]
 pub enum Handshake<R: ReadDevice + Drop, W: WriteDevice + Drop, Rt: Wait + Drop> {
-    /// The connection is a WebSocket now. The stream reads and writes the frames of the WebSocket.
+    /// The connection is a WebSocket. The stream reads and writes the bytes of its frames.
     Accepted(CustomStream<Body<R, Rt>, SequentialWriter<Outlet<W>, Rt>>),
     /// The request doesn't ask for a WebSocket, its body isn't whole (which only `Standard` requires), or the limit of
-    /// upgraded connections is reached. The request can be answered, as with the response of `refusal`.
+    /// upgraded connections is reached. The request can be answered, for example with the response of `refusal`.
     Refused(RefusedUpgrade<R, W, Rt>),
 }
 

@@ -1,5 +1,5 @@
-//! WebSockets over `tiny_http`: the opening handshake (RFC 6455, section 4.2). A program handles the frames itself, as
-//! with `tungstenite`.
+//! WebSockets over `tiny_http`: the opening handshake (RFC 6455, section 4.2). A program handles the frames itself, for
+//! example with `tungstenite`.
 #![tactic(auto)]
 
 pub mod handshake;

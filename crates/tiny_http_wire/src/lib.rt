@@ -1,5 +1,5 @@
 //! The wire layer of a small HTTP server (HTTP/1.x, RFC 9110 and RFC 9112): readers and writers, the parts of a head,
-//! chunked bodies, and the printing of responses. It has no code of its own: it re-exports modules of `tiny_http_text`,
+//! chunked bodies, and the printing of responses. It only re-exports modules and laws of `tiny_http_text`,
 //! `tiny_http_io`, `tiny_http_head`, `tiny_http_body` and `tiny_http_response`.
 #![tactic(auto)]
 

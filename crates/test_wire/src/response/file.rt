@@ -83,7 +83,7 @@ fn a_file_by_the_threshold(rt: HostRuntime) -> Result<(), Fail> {
     Ok(())
 }
 
-// The length of a file of 4 GiB is not cut to 32 bits.
+// The length of a file of 4 GiB is not truncated to 32 bits.
 #[test]
 fn a_long_file(rt: HostRuntime) {
     let file = Stand {

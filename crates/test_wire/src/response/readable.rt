@@ -43,7 +43,7 @@ fn with_field(
     }
 }
 
-// Asserts whether a response is readable with this field alone, and with others around it.
+// Asserts that a response with this field, alone or among others, is readable exactly if the row says so.
 fn assert_row(rt: &impl Abort, alloc: Global, row: (&str, &str, bool)) -> Result<(), Fail> {
     let (name, value, _) = row;
     let answer = with_field(alloc, Response::empty(alloc, StatusCode(302)), name, value)?;

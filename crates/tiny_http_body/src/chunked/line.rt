@@ -121,9 +121,9 @@ fn breaks_line(rules: ChunkRules, b: u8) -> bool
     }
 }
 
-/// Consumes the next line, of at most `LONGEST_LINE` bytes, and its CR LF. Fails with `InvalidData` once two more bytes
-/// than `LONGEST_LINE` have arrived without a CR LF, and as `next_byte` does if the reader stops before that. Under
-/// `Standard` it also fails with `InvalidData` as soon as an LF without a CR before it is read.
+/// Consumes the next line, of at most `LONGEST_LINE` bytes, and its CR LF. Fails with `InvalidData` if no CR LF is
+/// among the next 8194 bytes (`LONGEST_LINE` and 2 more), and as `next_byte` does if the reader stops before that.
+/// Under `Standard`, also fails with `InvalidData` as soon as an LF without a CR before it is read.
 pub(crate) fn next_line<R: ReadDevice>(
     reader: &mut R,
     rules: ChunkRules,

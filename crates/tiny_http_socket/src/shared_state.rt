@@ -11,7 +11,7 @@ use std::sync::atomic::{AtomicBool, AtomicU8, AtomicU16, AtomicU64, Ordering};
 use tiny_http_limits::counts::{Closing, Summary};
 use tiny_http_limits::limits::Limits;
 
-// The lowest limit of open requests on a connection. A lower limit is raised to this one.
+// The lowest limit on the open requests of a connection. A lower limit is raised to this one.
 const LEAST_OPEN: usize = 2;
 
 /// Maps an error to the one that is reported under limits: `WouldBlock`, the system's timeout, becomes `TimedOut`; any
@@ -25,7 +25,7 @@ pub fn fault_in_time(fault: io::Error) -> io::Error
     fault
 }
 
-/// What a connection waits for from its client.
+/// The phase of a connection: what it waits for from its client.
 #[derive(Clone, Copy, Debug, PartialEq, Eq)]
 pub enum Phase {
     /// The first byte of a head.
@@ -85,14 +85,14 @@ fn closing_of(number: u8) -> Option<Closing> {
     }
 }
 
-/// A connection's state that its threads share, apart from its reader and writer: the limits, the phase (what is
-/// awaited from the client), whether the connection was stopped, and its counts. It runs no timer: the connection's
-/// reader and writer compute how long they may wait.
+/// The state that the threads of a connection share, apart from its reader and writer: the limits, the phase (what is
+/// awaited from the client), whether the connection was stopped, and its counts. From these the connection's reader and
+/// writer compute how long they may wait.
 #[derive(Drop)]
-pub struct ConnectionTimers {
+pub struct SharedState {
     limits: Option<Limits>,
     phase: AtomicU8,
-    // Whether no further head is read.
+    // Whether `stop` was called: no further head is read then.
     is_stopped: AtomicBool,
     requests: AtomicU64,
     // The number of requests and refused heads that have no response yet.
@@ -109,17 +109,17 @@ pub struct ConnectionTimers {
     closing: AtomicU8,
 }
 
-impl ConnectionTimers {
+impl SharedState {
     /// Creates the state of a connection from which nothing has been read yet. Without limits there are no timeouts.
-    /// `upgraded` counts the upgraded connections; connections with the same counter share the limit of upgrades. Fails
+    /// `upgraded` counts the upgraded connections; connections with the same counter share the limit on upgrades. Fails
     /// if memory is refused.
     pub fn new(
         alloc: Global,
         limits: Option<Limits>,
         upgraded: Arc<AtomicU64>,
-    ) -> Result<Arc<ConnectionTimers>, AllocError> {
+    ) -> Result<Arc<SharedState>, AllocError> {
         let open = Arc::new(alloc, AtomicU64::new(0))?;
-        let timers = ConnectionTimers {
+        let shared = SharedState {
             limits,
             phase: AtomicU8::new(Phase::Between.number()),
             is_stopped: AtomicBool::new(false),
@@ -131,7 +131,7 @@ impl ConnectionTimers {
             refusal: AtomicU16::new(0),
             closing: AtomicU8::new(0),
         };
-        Ok(Arc::new(alloc, timers)?)
+        Ok(Arc::new(alloc, shared)?)
     }
 
     /// Returns the counter of requests and refused heads that have no response yet.
@@ -192,7 +192,7 @@ impl ConnectionTimers {
     }
 
     /// Counts the connection as upgraded until `end_stream`, unless it is counted already, and returns true. If that
-    /// would exceed the limit of upgrades, doesn't count it and returns false. Without limits it only returns true.
+    /// would exceed the limit on upgrades, doesn't count it and returns false. Without limits it only returns true.
     pub fn enter_stream(&self) -> bool {
         let Some(limits) = &self.limits else {
             return true;
@@ -232,8 +232,8 @@ impl ConnectionTimers {
         self.has_written.swap(false, Ordering::SeqCst)
     }
 
-    /// Prevents any further head from being read. Returns whether the connection was waiting for a head or the rest of
-    /// one. If it was, nothing more is read, and the caller must shut down the direction from the client.
+    /// Prevents any further head from being read. Returns whether the connection was in phase `Between` or `Head`. If
+    /// it was, nothing more is read, and the caller must shut down the direction from the client.
     pub fn stop(&self) -> bool {
         self.is_stopped.store(true, Ordering::SeqCst);
         self.stop_from(Phase::Between) || self.stop_from(Phase::Head)

@@ -1,0 +1,6 @@
+//! The bookkeeping of a server whose connections wait without a thread, as plain values: which connections wait for
+//! their sockets, which are served, and when a wait is over. The crate depends only on the standard library.
+#![tactic(auto)]
+
+pub mod laws;
+pub mod wait_table;
