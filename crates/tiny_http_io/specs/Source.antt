@@ -40,6 +40,10 @@ abbrev pub CallsReader : {R : Type 0} → (R → ℕ) → SourceState R → Sour
 CallsReader stop_count old new = stop_count new.reader + stops_to_come new.stop
     ≤ stop_count old.reader + stops_to_come old.stop
 
+-- whether a call takes nothing from a source: only the reader may have changed, and not its feed
+abbrev pub IsUnread : {R : Type 0} → SourceState R → SourceState R → Type 0
+IsUnread old new = new ≡ record old { reader = new.reader }
+
 -- whether a whole line is buffered after the bytes to be skipped
 abbrev pub HoldsLine : {R : Type 0} → SourceState R → Type 0
 HoldsLine s = has_crlf (drop s.skip s.held) ≡ true

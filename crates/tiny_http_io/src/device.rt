@@ -1,5 +1,5 @@
 //! The device traits: readers that may state the bytes still to come, and writers that count their failures.
-ghost use Rattle.std.specs.Prelude.{◌≡◌, ◌<◌, ◌≤◌, ℕ, min, false, [], length, take, drop, Option, None, Some, Ok, IfOk};
+ghost use Rattle.std.specs.Prelude.{◌≡◌, ◌<◌, ◌≤◌, ◌+◌, ℕ, min, false, [], length, take, drop, Option, None, Some, Ok, IfOk};
 ghost use Rattle.std.specs.Prelude.{IfErr, OnOk, OnErr, vec_len, flat_map};
 ghost use Rattle.std.specs.IoError.{error_kind};
 ghost use Rattle.tiny_http_io.specs.Cursor.{cursor_bytes};
@@ -36,6 +36,26 @@ pub trait ReadDevice {
         ensures reads { Reads (feed self.old) (feed self.new) result buf.new }
         ensures empty { length buf.new ≡ 0 → (result ≡ Ok 0) × (self.new ≡ self.old) }
         ensures stop_count { Tells (stop_count self.old) (stop_count self.new) result };
+}
+
+/// A reader that can read ahead: it stores bytes before they are asked for. Reads return these bytes first.
+pub trait ReadAheadDevice: ReadDevice {
+    /// Returns the bytes that were read ahead and that no read has returned yet.
+    fn ahead(&self) -> &[u8];
+
+    /// Returns how many more bytes the reader can store now.
+    fn ahead_room(&self) -> usize;
+
+    /// Reads ahead once, waiting as briefly as it can, and returns how many bytes came: 0 at the end, or if there is no
+    /// room. Fails with `WouldBlock` if none has come. The feed is unchanged, also if it fails.
+    fn read_ahead(&mut self) -> Result<usize, io::Error>
+        ensures feed { Self.feed self.new ≡ Self.feed self.old }
+        ensures stop_count { Self.stop_count self.new ≤ Self.stop_count self.old + 1 };
+
+    /// Frees the memory of the bytes that are read ahead, if none is stored.
+    fn release_ahead(&mut self)
+        ensures feed { Self.feed self.new ≡ Self.feed self.old }
+        ensures stop_count { Self.stop_count self.new ≡ Self.stop_count self.old };
 }
 
 /// A writer that counts its failures. Its contract may state the bytes that it took and its last failure.

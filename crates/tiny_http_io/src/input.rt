@@ -11,7 +11,7 @@ ghost use Rattle.tiny_http_io.specs.Source.{IsWithin, seen_within};
 ghost use Rattle.tiny_http_io.specs.ToCome.{skipped, stopped, HasByte, HasNoByte};
 
 use crate::buffer::{Buffer, CAPACITY};
-use crate::device::{ReadDevice, Stop};
+use crate::device::{ReadAheadDevice, ReadDevice, Stop};
 use crate::lines::{go_on, is_reached, is_within, line_end, one_less};
 use crate::source::{FirstLine, LineFault};
 use std::alloc::{AllocError, Global};
@@ -510,5 +510,37 @@ impl<R: ReadDevice> Input<R> {
             return Err(kind.into());
         }
         Ok(self.held.give(buf))
+    }
+}
+
+impl<R: ReadAheadDevice> Input<R> {
+    ghost use Rattle.tiny_http_io.specs.Input.{input_feed, input_reader};
+
+    /// Returns the bytes that the reader has read ahead.
+    pub fn ahead(&self) -> &[u8] {
+        self.inner.ahead()
+    }
+
+    /// Returns how many more bytes the reader can read ahead.
+    pub fn ahead_room(&self) -> usize {
+        self.inner.ahead_room()
+    }
+
+    /// Has the reader read ahead once.
+    pub fn read_ahead(&mut self) -> Result<usize, io::Error>
+        ensures feed { input_feed R.feed self.new ≡ input_feed R.feed self.old }
+        ensures rest { self.new ≡ record self.old { inner = input_reader self.new } }
+        ensures stop_count { R.stop_count (input_reader self.new) ≤ R.stop_count (input_reader self.old) + 1 }
+    {
+        self.inner.read_ahead()
+    }
+
+    /// Has the reader free the memory of the bytes that are read ahead, if none is stored.
+    pub fn release_ahead(&mut self)
+        ensures feed { input_feed R.feed self.new ≡ input_feed R.feed self.old }
+        ensures rest { self.new ≡ record self.old { inner = input_reader self.new } }
+        ensures stop_count { R.stop_count (input_reader self.new) ≡ R.stop_count (input_reader self.old) }
+    {
+        self.inner.release_ahead()
     }
 }

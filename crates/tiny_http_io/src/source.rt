@@ -1,11 +1,11 @@
 //! The buffered input of a connection: lines and bytes, read through a buffer of fixed size.
-ghost use Rattle.std.specs.Prelude.{◌≡◌, true, ◌-◌, ◌^◌, ◌<◌, ◌≤◌, [], length, Option, None, Some, IsSome};
+ghost use Rattle.std.specs.Prelude.{◌≡◌, true, ◌+◌, ◌-◌, ◌^◌, ◌<◌, ◌≤◌, [], length, Option, None, Some, IsSome};
 ghost use Rattle.std.specs.Prelude.{IfSome};
 ghost use Rattle.tiny_http_io.specs.Device.{StopsBy, Tells};
 ghost use Rattle.tiny_http_io.specs.LineEnds.{EndsLine};
 ghost use Rattle.tiny_http_io.specs.ToCome.{skipped, stopped};
 
-use crate::device::{ReadDevice, Stop};
+use crate::device::{ReadAheadDevice, ReadDevice, Stop};
 use crate::input::Input;
 use std::alloc::{AllocError, Global};
 use std::io;
@@ -273,6 +273,36 @@ impl<R: ReadDevice> Source<R> {
         ensures calls { CallsReader R.stop_count self.old self.new }
     {
         self.input.take_exactly(alloc, n)
+    }
+}
+
+impl<R: ReadAheadDevice> Source<R> {
+    ghost use Rattle.tiny_http_io.specs.Source.{IsUnread};
+
+    /// Returns the bytes that the reader has read ahead. They follow the buffered ones.
+    pub fn ahead(&self) -> &[u8] {
+        self.input.ahead()
+    }
+
+    /// Returns how many more bytes the reader can read ahead.
+    pub fn ahead_room(&self) -> usize {
+        self.input.ahead_room()
+    }
+
+    /// Has the reader read ahead once, as `ReadAheadDevice::read_ahead` does. What the source gives is unchanged.
+    pub fn read_ahead(&mut self) -> Result<usize, io::Error>
+        ensures unread { IsUnread self.old self.new }
+        ensures stop_count { R.stop_count self.new.reader ≤ R.stop_count self.old.reader + 1 }
+    {
+        self.input.read_ahead()
+    }
+
+    /// Has the reader free the memory of the bytes that are read ahead, if none is stored.
+    pub fn release_ahead(&mut self)
+        ensures unread { IsUnread self.old self.new }
+        ensures stop_count { R.stop_count self.new.reader ≡ R.stop_count self.old.reader }
+    {
+        self.input.release_ahead()
     }
 }
 
