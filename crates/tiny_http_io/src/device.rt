@@ -46,6 +46,9 @@ pub trait ReadAheadDevice: ReadDevice {
     /// Returns how many more bytes the reader can store now.
     fn ahead_room(&self) -> usize;
 
+    /// Returns whether the last read found fewer bytes than it asked for, so that no more had come.
+    fn is_drained(&self) -> bool;
+
     /// Reads ahead once, waiting as briefly as it can, and returns how many bytes came: 0 at the end, or if there is no
     /// room. Fails with `WouldBlock` if none has come. The feed is unchanged, also if it fails.
     fn read_ahead(&mut self) -> Result<usize, io::Error>

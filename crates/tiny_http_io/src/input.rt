@@ -55,6 +55,13 @@ impl<R: ReadDevice> Input<R> {
         self.inner
     }
 
+    /// Returns the number of bytes to be skipped.
+    pub fn to_skip(&self) -> usize
+        ensures { result ≡ input_skip self.now }
+    {
+        self.skip
+    }
+
     /// Returns how the input stopped, if it has.
     pub fn stop(&self) -> Option<Stop>
         ensures stop { result ≡ input_stop self.now }
@@ -524,6 +531,11 @@ impl<R: ReadAheadDevice> Input<R> {
     /// Returns how many more bytes the reader can read ahead.
     pub fn ahead_room(&self) -> usize {
         self.inner.ahead_room()
+    }
+
+    /// Returns whether the reader's last read found fewer bytes than it asked for.
+    pub fn is_drained(&self) -> bool {
+        self.inner.is_drained()
     }
 
     /// Has the reader read ahead once.

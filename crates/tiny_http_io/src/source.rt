@@ -236,6 +236,13 @@ impl<R: ReadDevice> Source<R> {
         self.input.held()
     }
 
+    /// Returns the number of bytes to be skipped before the next line or read.
+    pub fn to_skip(&self) -> usize
+        ensures { result ≡ self.now.skip }
+    {
+        self.input.to_skip()
+    }
+
     /// Consumes a line that `find_line` found in the buffer: n bytes and the CR LF after them. The reader isn't called.
     /// It is for the crates that build on this one.
     pub fn pass_line(&mut self, n: usize)
@@ -287,6 +294,11 @@ impl<R: ReadAheadDevice> Source<R> {
     /// Returns how many more bytes the reader can read ahead.
     pub fn ahead_room(&self) -> usize {
         self.input.ahead_room()
+    }
+
+    /// Returns whether the reader's last read found fewer bytes than it asked for, so that no more had come.
+    pub fn is_drained(&self) -> bool {
+        self.input.is_drained()
     }
 
     /// Has the reader read ahead once, as `ReadAheadDevice::read_ahead` does. What the source gives is unchanged.

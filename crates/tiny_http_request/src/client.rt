@@ -20,9 +20,9 @@ use tiny_http_io::source::Source;
 use tiny_http_open_request::exchange::{EndOfRequests, Head};
 use tiny_http_open_request::next_request::{NextRequest, RefusalPlace, next_request};
 use tiny_http_open_request::open_request::OpenRequest;
-use tiny_http_socket::shared_state::SharedState;
 use tiny_http_socket::cork::FlushPolicy;
 use tiny_http_socket::refined_tcp_stream::RefinedTcpStream;
+use tiny_http_socket::shared_state::SharedState;
 use tiny_http_threads::held_reader::HeldReader;
 use tiny_http_threads::sequential::{
     SequentialReader, SequentialReaderBuilder, SequentialWriter, SequentialWriterBuilder,
