@@ -19,7 +19,8 @@ fn push_escaped(html: &mut String, name: &str) -> io::Result<()> {
 pub(crate) fn list_of(alloc: Global, names: &[String]) -> io::Result<String> {
     let mut html = String::from_str(alloc, "<!doctype html>\n<ul>\n")?;
     for name in names {
-        // The link is relative to the folder. With `./` first, no part of a name is taken for a scheme.
+        // The link is relative to the folder, as `./` makes explicit. No part of a name is taken for a scheme, since
+        // `:` is percent-encoded.
         html.push_str("<li><a href=\"./")?;
         utf8_percent_encode(name.as_str(), NON_ALPHANUMERIC).append_to(&mut html)?;
         html.push_str("\">")?;

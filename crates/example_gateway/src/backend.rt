@@ -49,7 +49,7 @@ fn end_of_head(bytes: &[u8]) -> Option<usize> {
     None
 }
 
-// Returns a head with its bytes from 128 on percent-encoded, as `Standard` encodes those of a request's field values.
+// Returns a head with each byte above 127 percent-encoded, as `Standard` does in a request's field values.
 fn encoded(alloc: Global, head: &[u8]) -> io::Result<Vec<u8>> {
     let mut bytes = Vec::new(alloc);
     for byte in head {
@@ -157,8 +157,8 @@ impl<Rt: Clock> Backend<'_, Rt> {
         }
     }
 
-    // Waits for the response's head, for at most ten seconds, and then fails with `TimedOut`. Fails with
-    // `UnexpectedEof` if the connection ends before that.
+    // Waits for the response's head. Fails with `TimedOut` if it hasn't arrived within ten seconds, and with
+    // `UnexpectedEof` if the connection ends first.
     fn wait(&mut self) -> io::Result<()> {
         let begun = Instant::now(self.rt)?;
         let patience = Duration::from_secs(PATIENCE);

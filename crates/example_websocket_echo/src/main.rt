@@ -22,8 +22,9 @@ use tungstenite::{
 // Maximum length of a message in bytes.
 const MOST: usize = 1 << 20;
 
-// Returns the close code for an error of the client (RFC 6455, sections 7.1.7 and 7.4.1): a frame that breaks the
-// protocol, a text that isn't UTF-8, or a message that is too long. Returns `None` for any other error.
+// Returns the close code for a client error (RFC 6455, sections 7.1.7 and 7.4.1): a breach of the protocol, which
+// includes ending the stream without a Close frame, a text that isn't UTF-8, or a message that is too long. Returns
+// `None` for any other error.
 fn close_code(fault: &Error) -> Option<CloseCode> {
     match fault {
         Error::Protocol(_) => Some(CloseCode::Protocol),
@@ -46,8 +47,8 @@ fn send_back<S: Read + Write + Drop>(socket: &mut WebSocket<S, NoMask>) -> Resul
     Ok(())
 }
 
-// Sends each message back. If an error of the client (`close_code`) ends the conversation, the client gets a Close
-// frame.
+// Sends each message back. If a client error (see `close_code`) ends the conversation, sends a Close frame, unless the
+// stream has already ended.
 fn talk<S: Read + Write + Drop>(alloc: Global, stream: S) -> Result<(), Error> {
     let config = WebSocketConfig::default()
         .max_message_size(Some(MOST))

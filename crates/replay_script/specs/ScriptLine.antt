@@ -9,7 +9,7 @@ use Rattle.replay_script.specs.declared.line.ScriptLine.TheVariants.{Write, Flus
 use Rattle.replay_script.specs.declared.line.Content.{Content}
 use Rattle.replay_script.specs.declared.line.Content.TheVariants.{Text, Empty, Stream, Broken}
 
--- whether a text is one or more decimal digits, and the digits write this number
+-- whether a text is this number in one or more decimal digits
 abbrev pub WritesNumber : List ℕ → ℕ → Type 0
 WritesNumber digits n = IsNumeral 10 digits × (digits_value 10 digits ≡ n)
 

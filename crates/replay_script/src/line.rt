@@ -44,9 +44,9 @@ pub enum Content<'a> {
     Text(&'a str),
     /// No data.
     Empty,
-    /// This many bytes `x`, without a stated length.
+    /// This many `x` bytes, without a stated length.
     Stream(u16),
-    /// This many bytes `x`, without a stated length, and then a fault in place of the end.
+    /// This many `x` bytes, without a stated length, and then a fault in place of the end.
     Broken(u16),
 }
 

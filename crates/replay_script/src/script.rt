@@ -77,7 +77,8 @@ fn text_response(
     Ok(response.with_data(data, Some(text.len())))
 }
 
-// Returns a response with this status code, `count` bytes `x`, this stop, and this length, if it is known.
+// Returns a response with this status code and, as its data, `count` bytes of `x` that end with this stop. `length` is
+// the stated length, if it is known.
 fn xs_response(
     alloc: Global,
     status: StatusCode,

@@ -123,7 +123,8 @@ fn rooms(alloc: Global, words: &str) -> Result<Rooms, LineFault> {
     Ok(Rooms::These(numbers(alloc, words)?))
 }
 
-// Adds a part of a response or of its data.
+// Adds input bytes, the error after them, or a part of a response: the stated length of its data, its threshold, or a
+// header.
 fn add_of_answer(
     alloc: Global,
     input: &mut Input,
@@ -144,7 +145,7 @@ fn add_of_answer(
     }
 }
 
-// Adds a part of a request.
+// Adds the version or a header of a request, or how its response is printed: as an upgrade, or without its body.
 fn add_of_request(
     alloc: Global,
     input: &mut Input,

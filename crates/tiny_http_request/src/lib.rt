@@ -1,6 +1,6 @@
-//! Requests of one connection for threads: any thread may read, answer, drop or upgrade them, in any order, while the
-//! connection reads on. The crate is built on `tiny_http_open_request`, `tiny_http_socket` and `tiny_http_threads`, and
-//! `tiny_http` re-exports its modules.
+//! The requests of one connection, shared among threads: any thread may read, answer, drop or upgrade them, in any
+//! order, while the connection reads on. The crate is built on `tiny_http_open_request`, `tiny_http_socket` and
+//! `tiny_http_threads`, and `tiny_http` re-exports its modules.
 #![tactic(auto)]
 
 mod answering;

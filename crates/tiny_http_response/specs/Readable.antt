@@ -4,8 +4,8 @@ use Rattle.tiny_http_text.specs.Bytes.{is_blank, AreAscii, HasNo, HasNoBlank, ha
 use Rattle.tiny_http_text.specs.Lines.{has_crlf}
 use Rattle.tiny_http_head.specs.declared.common.Header.{Header}
 
--- Whether a client reads a header back as it is printed: its name has no white space and no colon, its value is trimmed
--- and has no CR LF, and both are ASCII.
+-- Whether a client for which only CR LF ends a line (`ClientAnswer`) reads a header back as it is printed: its name has
+-- no white space and no colon, its value is trimmed and has no CR LF, and both are ASCII.
 pub record IsReadable (header : Header) : Type 0 where
   pub ascii_field : AreAscii header.field
   pub ascii_value : AreAscii header.value

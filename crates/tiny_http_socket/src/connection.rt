@@ -6,6 +6,7 @@ ghost use Rattle.tiny_http_socket.specs.Connection.{IsCopyOf, ip_of, unix_of};
 use std::alloc::{AllocError, Global};
 use std::io::{IoSlice, Read, Write};
 use std::net::{Net, Shutdown, SocketAddr, TcpListener, TcpStream, ToSocketAddrs};
+use std::os::fd::{AsRawFd, RawFd};
 use std::os::unix::fs::FileTypeExt;
 use std::os::unix::net as unix_net;
 use std::path::{Path, PathBuf};
@@ -184,6 +185,16 @@ impl Connection {
         match self {
             Connection::Tcp(stream) => stream.set_write_timeout(Some(timeout)),
             Connection::Unix(stream) => stream.set_write_timeout(Some(timeout)),
+        }
+    }
+}
+
+impl AsRawFd for Connection {
+    /// Returns the socket's file descriptor.
+    fn as_raw_fd(&self) -> RawFd {
+        match self {
+            Connection::Tcp(stream) => stream.as_raw_fd(),
+            Connection::Unix(stream) => stream.as_raw_fd(),
         }
     }
 }

@@ -11,7 +11,7 @@ use std::io;
 use std::io::ErrorKind;
 use std::sync::atomic::{AtomicBool, Ordering};
 use std::sync::{Arc, Mutex, Wait};
-use tiny_http_io::device::{ReadDevice, WriteDevice};
+use tiny_http_io::device::{ReadAheadDevice, ReadDevice, WriteDevice};
 
 /// The flush policy of a connection: whether a flush of its writer may leave bytes buffered. A caller that allows this
 /// must send those bytes soon, with `Cork::send`.
@@ -262,6 +262,34 @@ impl<R: ReadDevice + Drop, W: WriteBoth + Drop> ReadDevice for FlushingReader<R,
     /// socket, as `ReadAhead::read_after` does.
     fn read_in(&mut self, buf: &mut [u8]) -> Result<usize, io::Error> {
         self.ahead.read_after(&mut self.sending, buf)
+    }
+}
+
+impl<R: ReadDevice + Drop, W: WriteBoth + Drop> ReadAheadDevice for FlushingReader<R, W> {
+    /// Returns the bytes that were read ahead.
+    fn ahead(&self) -> &[u8] {
+        self.ahead.held()
+    }
+
+    /// Returns how many more bytes can be read ahead.
+    fn ahead_room(&self) -> usize {
+        self.ahead.room()
+    }
+
+    /// Returns whether the last read of the socket returned fewer bytes than it asked for, or failed.
+    fn is_drained(&self) -> bool {
+        self.ahead.is_drained()
+    }
+
+    /// Sends the buffered bytes, then reads ahead from the socket, as `ReadAhead::read_ahead` does.
+    fn read_ahead(&mut self) -> Result<usize, io::Error> {
+        self.sending.before_read();
+        self.ahead.read_ahead()
+    }
+
+    /// Frees the memory of the bytes that are read ahead, if none is held.
+    fn release_ahead(&mut self) {
+        self.ahead.release()
     }
 }
 

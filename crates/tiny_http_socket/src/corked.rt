@@ -88,6 +88,15 @@ impl<W: WriteBoth> Corked<W> {
         self.waiting.as_slice()
     }
 
+    /// Frees the memory of the buffer, if no bytes are buffered. The next write that needs it takes it again.
+    pub fn release(&mut self)
+        ensures { self.new ≡ self.old }
+    {
+        if self.waiting.is_empty() {
+            self.waiting = Vec::new(*self.waiting.allocator());
+        }
+    }
+
     /// Returns the inner writer, and discards the buffered bytes.
     pub fn into_inner(self) -> W
         ensures { result ≡ self.writer }
@@ -175,6 +184,9 @@ impl<W: WriteBoth> Corked<W> {
             (λ e. Failed self.old.sink self.new.sink (self.old.waiting ++ buf.now) (error_kind e)) }
         ensures ends { OnErr result (self.new.state ≡ Ended) }
     {
+        if self.waiting.capacity() == 0 {
+            let _ = self.waiting.reserve_exact(ROOM);
+        }
         let room = ROOM.saturating_sub(self.waiting.len());
         if buf.len() <= room && self.waiting.extend_from_slice(buf).is_ok() {
             return Ok(buf.len());

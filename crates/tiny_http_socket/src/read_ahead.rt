@@ -1,6 +1,6 @@
 //! Reading ahead in large pieces.
-ghost use Rattle.std.specs.Prelude.{◌≡◌, ◌≢◌, ◌<◌, ◌≤◌, ◌+◌, ◌++◌, min, [], length, take, drop, Ok, Err, IfOk, IfErr};
-ghost use Rattle.std.specs.Prelude.{OnOk, OnErr, vec_len};
+ghost use Rattle.std.specs.Prelude.{◌≡◌, ◌≢◌, ◌<◌, ◌≤◌, ◌+◌, ◌++◌, min, [], length, take, drop, Ok, IfOk, IfErr};
+ghost use Rattle.std.specs.Prelude.{◌-◌, ◌⊎◌, OnOk, OnErr, true, false, vec_len};
 ghost use Rattle.std.specs.IoError.{error_kind};
 ghost use Rattle.tiny_http_io.specs.Device.{Reads, Tells, prepended, StopsBy};
 ghost use Rattle.tiny_http_io.specs.declared.device.Stop.TheVariants.{End, Fault};
@@ -8,6 +8,7 @@ ghost use Rattle.tiny_http_socket.specs.declared.read_ahead.TheConstants.{PIECE}
 
 use std::alloc::{AllocError, Global};
 use std::io;
+use std::io::ErrorKind;
 use std::marker::Model;
 use tiny_http_io::device::{ReadDevice, copy_front};
 
@@ -29,13 +30,16 @@ pub trait BeforeRead {
 #[derive(Drop)]
 pub struct ReadAhead<R: ReadDevice> {
     reader: R,
+    // Room for a piece, or empty until the next read that needs it.
     piece: Vec<u8>,
     start: usize,
     end: usize,
+    // Whether the last read of the inner reader returned fewer bytes than it asked for, or failed.
+    is_drained: bool,
 }
 
 impl<R: ReadDevice> Model for ReadAhead<R> {
-    ghost use Rattle.std.specs.Prelude.{◌≡◌, ◌-◌, ◌≤◌, take, drop, vec_len};
+    ghost use Rattle.std.specs.Prelude.{◌≡◌, ◌-◌, ◌≤◌, ◌⊎◌, take, drop, vec_len};
     ghost use Rattle.tiny_http_socket.specs.ReadAhead.{AheadState};
     ghost use Rattle.tiny_http_socket.specs.declared.read_ahead.TheConstants.{PIECE};
 
@@ -44,7 +48,58 @@ impl<R: ReadDevice> Model for ReadAhead<R> {
     ghost view = { λ a. record
         { held = take (a.end - a.start) (drop a.start a.piece.items); reader = a.reader; feed = R.feed a.reader } };
 
-    ghost invariant = { λ a. (a.start ≤ a.end) × (a.end ≤ PIECE) × (vec_len a.piece ≡ PIECE) };
+    // The memory is whole, or there is none.
+    ghost invariant = { λ a. (a.start ≤ a.end) × (a.end ≤ vec_len a.piece)
+        × ((vec_len a.piece ≡ PIECE) ⊎ (vec_len a.piece ≡ 0)) };
+}
+
+// Takes the memory for a piece, if it was freed. Returns false, with nothing changed, if memory is refused.
+fn take_piece(piece: &mut Vec<u8>) -> bool
+    requires { (vec_len piece.old ≡ PIECE) ⊎ (vec_len piece.old ≡ 0) }
+    ensures taken { result ≡ true → vec_len piece.new ≡ PIECE }
+    ensures same { vec_len piece.old ≡ PIECE → piece.new ≡ piece.old }
+    ensures refused { result ≡ false → piece.new ≡ piece.old }
+{
+    if !piece.is_empty() {
+        return true;
+    }
+    match Vec::from_elem(*piece.allocator(), 0, PIECE) {
+        Ok(taken) => {
+            *piece = taken;
+            true
+        }
+        Err(_) => false,
+    }
+}
+
+// Moves the bytes from `start` to `end` to the front of a piece.
+fn move_to_front(piece: &mut [u8], start: usize, end: usize)
+    requires start { start ≤ end }
+    requires end { end ≤ length piece.old }
+    ensures len { length piece.new ≡ length piece.old }
+    ensures bytes { take (end - start) piece.new ≡ take (end - start) (drop start piece.old) }
+{
+    if start > 0 {
+        piece.copy_within(start..end, 0);
+    }
+}
+
+// Reads once into the room after the first `end` bytes of a piece, and returns how many bytes came.
+fn read_after_held<R: ReadDevice>(
+    reader: &mut R,
+    piece: &mut [u8],
+    end: usize,
+) -> Result<usize, io::Error>
+    requires { end ≤ length piece.old }
+    ensures len { length piece.new ≡ length piece.old }
+    ensures count { IfOk result (λ n. end + n ≤ length piece.old) }
+    ensures feed { IfOk result (λ n. prepended (take (end + n) piece.new) (R.feed reader.new)
+        ≡ prepended (take end piece.old) (R.feed reader.old)) }
+    ensures kept { OnErr result (take end piece.new ≡ take end piece.old) }
+    ensures same { OnErr result (R.feed reader.new ≡ R.feed reader.old) }
+    ensures stop_count { R.stop_count reader.new ≤ R.stop_count reader.old + 1 }
+{
+    reader.read_in(&mut piece[end..])
 }
 
 impl<R: ReadDevice + Drop> ReadAhead<R> {
@@ -60,6 +115,7 @@ impl<R: ReadDevice + Drop> ReadAhead<R> {
             piece,
             start: 0,
             end: 0,
+            is_drained: true,
         })
     }
 }
@@ -86,22 +142,29 @@ impl<R: ReadDevice> ReadAhead<R> {
         n
     }
 
-    // Reads at most a piece from the inner reader. No bytes may be held when it is called.
-    fn fill(&mut self) -> Result<(), io::Error>
+    // Reads at most a piece from the inner reader. Returns false, with nothing read, if memory for the piece is refused.
+    // No bytes may be held when it is called.
+    fn fill(&mut self) -> Result<bool, io::Error>
         requires none { self.old.held ≡ [] }
-        ensures bytes { OnOk result (self.old.feed ≡ ahead_feed self.new) }
-        ensures end { OnOk result (self.new.held ≡ [] → StopsBy End self.old.feed) }
+        ensures bytes { result ≡ Ok true → self.old.feed ≡ ahead_feed self.new }
+        ensures end { result ≡ Ok true → self.new.held ≡ [] → StopsBy End self.old.feed }
+        ensures memory { result ≡ Ok false → self.new ≡ self.old }
         ensures fault { IfErr result (λ e. StopsBy (Fault (error_kind e)) self.old.feed) }
         ensures again { OnErr result ((self.new.held ≡ []) × (self.new.feed ≡ self.old.feed)) }
         ensures stop_count { R.stop_count self.new.reader ≤ R.stop_count self.old.reader + 1 }
         ensures lazy { OnOk result
             (0 < length self.new.held → R.stop_count self.new.reader ≤ R.stop_count self.old.reader) }
     {
+        if !take_piece(&mut self.piece) {
+            return Ok(false);
+        }
         let read = self.reader.read_in(self.piece.as_mut_slice());
         self.start = 0;
         self.end = 0;
+        self.is_drained = true;
         self.end = read?;
-        Ok(())
+        self.is_drained = self.end < PIECE;
+        Ok(true)
     }
 
     /// Reads some bytes into the front of `buf`, and returns their number. Held bytes come first. If there are none, it
@@ -128,17 +191,86 @@ impl<R: ReadDevice> ReadAhead<R> {
         self.read_more(buf)
     }
 
-    // Reads some bytes from the inner reader: directly into `buf` if that has room for a piece; otherwise it reads a
-    // piece and copies what fits. No bytes may be held when it is called.
+    // Reads some bytes from the inner reader: directly into `buf` if that has room for a piece, or if memory for a piece
+    // is refused; otherwise it reads a piece and copies what fits. No bytes may be held when it is called.
     fn read_more(&mut self, buf: &mut [u8]) -> Result<usize, io::Error>
         requires none { self.old.held ≡ [] }
         ensures reads { Reads self.old.feed (ahead_feed self.new) result buf.new }
         ensures stop_count { Tells (R.stop_count self.old.reader) (R.stop_count self.new.reader) result }
     {
         if buf.len() >= PIECE {
-            return self.reader.read_in(buf);
+            return self.read_past(buf);
         }
-        self.fill()?;
+        if !self.fill()? {
+            return self.read_past(buf);
+        }
         Ok(self.give(buf))
+    }
+
+    // Reads directly into `buf`. No bytes may be held when it is called.
+    fn read_past(&mut self, buf: &mut [u8]) -> Result<usize, io::Error>
+        requires none { self.old.held ≡ [] }
+        ensures none { self.new.held ≡ [] }
+        ensures reads { Reads self.old.feed self.new.feed result buf.new }
+        ensures stop_count { Tells (R.stop_count self.old.reader) (R.stop_count self.new.reader) result }
+    {
+        let read = self.reader.read_in(buf);
+        self.is_drained = match &read {
+            Ok(n) => *n < buf.len(),
+            Err(_) => true,
+        };
+        read
+    }
+
+    /// Returns the bytes that were read ahead.
+    pub fn held(&self) -> &[u8]
+        ensures { result.now ≡ self.now.held }
+    {
+        &self.piece[self.start..self.end]
+    }
+
+    /// Returns how many more bytes can be read ahead.
+    pub fn room(&self) -> usize
+        ensures { result + length self.now.held ≡ PIECE }
+    {
+        PIECE - (self.end - self.start)
+    }
+
+    /// Returns whether the last read of the inner reader returned fewer bytes than it asked for, or failed.
+    pub fn is_drained(&self) -> bool {
+        self.is_drained
+    }
+
+    /// Reads once from the inner reader, as many bytes as there is room for after the held ones, and returns how many
+    /// came: 0 at the end, or if there is no room. Fails with the inner reader's fault, or with `OutOfMemory` if memory
+    /// is refused.
+    pub fn read_ahead(&mut self) -> Result<usize, io::Error>
+        ensures feed { ahead_feed self.new ≡ ahead_feed self.old }
+        ensures count { IfOk result (λ n. length self.new.held ≡ length self.old.held + n) }
+        ensures none { OnErr result (self.new.held ≡ self.old.held) }
+        ensures stop_count { R.stop_count self.new.reader ≤ R.stop_count self.old.reader + 1 }
+    {
+        if !take_piece(&mut self.piece) {
+            return Err(ErrorKind::OutOfMemory.into());
+        }
+        move_to_front(&mut self.piece, self.start, self.end);
+        self.end -= self.start;
+        self.start = 0;
+        self.is_drained = true;
+        let n = read_after_held(&mut self.reader, &mut self.piece, self.end)?;
+        self.end += n;
+        self.is_drained = self.end < PIECE;
+        Ok(n)
+    }
+
+    /// Frees the memory of the bytes that are read ahead, if none is held. The next read that needs it takes it again.
+    pub fn release(&mut self)
+        ensures { self.new ≡ self.old }
+    {
+        if self.start == self.end {
+            self.start = 0;
+            self.end = 0;
+            self.piece = Vec::new(*self.piece.allocator());
+        }
     }
 }

@@ -94,6 +94,8 @@ pub struct SharedState {
     phase: AtomicU8,
     // Whether `stop` was called: no further head is read then.
     is_stopped: AtomicBool,
+    // Whether the time for the head that has begun is over.
+    is_head_late: AtomicBool,
     requests: AtomicU64,
     // The number of requests and refused heads that have no response yet.
     open: Arc<AtomicU64>,
@@ -123,6 +125,7 @@ impl SharedState {
             limits,
             phase: AtomicU8::new(Phase::Between.number()),
             is_stopped: AtomicBool::new(false),
+            is_head_late: AtomicBool::new(false),
             requests: AtomicU64::new(0),
             open,
             upgraded,
@@ -183,6 +186,16 @@ impl SharedState {
         let _ = self
             .phase
             .compare_exchange(old, new, Ordering::SeqCst, Ordering::SeqCst);
+    }
+
+    /// Records that the time for the head that has begun is over: a read for more of it fails with `TimedOut`.
+    pub fn expire_head(&self) {
+        self.is_head_late.store(true, Ordering::SeqCst);
+    }
+
+    /// Returns whether the time for the head that has begun is over, as `expire_head` recorded.
+    pub fn is_head_late(&self) -> bool {
+        self.is_head_late.load(Ordering::SeqCst)
     }
 
     /// Counts a request that is handed out, and records that reads now wait for its body.

@@ -3,18 +3,22 @@ ghost use Rattle.std.specs.Prelude.{◌≡◌, ◌≤◌, length, Ok, IfOk};
 ghost use Rattle.tiny_http_socket.specs.Timed.{IsReportOf, IsLate};
 
 use crate::connection::Connection;
-use crate::shared_state::{SharedState, Phase, fault_in_time};
+use crate::shared_state::{Phase, SharedState, fault_in_time};
 use std::io;
 use std::io::ErrorKind;
 use std::net::Shutdown;
 use std::sync::Arc;
 use std::time::{Clock, Duration};
-use tiny_http_io::device::ReadDevice;
+use tiny_http_io::device::{ReadAheadDevice, ReadDevice};
 use tiny_http_limits::counts::Closing;
+use tiny_http_limits::limits::Limits;
 use tiny_http_limits::times::{Patience, Stall, time_left};
 
 // The minimum read timeout of a socket, in milliseconds: 0 would mean no timeout.
 const LEAST_MILLIS: u64 = 1;
+
+// The read timeout of a socket while the reader reads ahead, in milliseconds.
+const AHEAD_MILLIS: u64 = 1;
 
 /// A reader over a client's socket, with timeouts if its connection has limits. A timeout for the first byte of a head
 /// counts as the end of input. A timeout for the rest of a head, a body or an upgraded stream is a fault of kind
@@ -81,6 +85,9 @@ impl<R: ReadDevice + Drop, Rt: Clock> TimedReader<R, Rt> {
     fn read_first(&mut self, time: Duration, buf: &mut [u8]) -> io::Result<usize>
         ensures { IfOk result (λ n. n ≤ length buf.new) }
     {
+        if self.shared.is_head_late() {
+            return self.head_is_late();
+        }
         self.begun = None;
         self.wait_for(Some(time));
         for _ in 0..u64::MAX {
@@ -107,6 +114,9 @@ impl<R: ReadDevice + Drop, Rt: Clock> TimedReader<R, Rt> {
     fn read_head(&mut self, time: Duration, buf: &mut [u8]) -> io::Result<usize>
         ensures { IfOk result (λ n. n ≤ length buf.new) }
     {
+        if self.shared.is_head_late() {
+            return self.head_is_late();
+        }
         let now = self.now();
         let begun = self.begun.unwrap_or(now);
         self.begun = Some(begun);
@@ -218,26 +228,91 @@ impl<R: ReadDevice + Drop, Rt: Clock> TimedReader<R, Rt> {
     }
 }
 
-impl<R: ReadDevice + Drop, Rt: Clock> ReadDevice for TimedReader<R, Rt> {
-    /// Reads once. Under limits it waits at most as long as the current phase allows, and in phase `Stopped` it returns
-    /// 0 without calling the inner reader. If `buf` is empty, it returns 0 without that call, too.
+impl<R: ReadAheadDevice + Drop, Rt: Clock> TimedReader<R, Rt> {
+    // Reads some of the bytes that were read ahead, without a wait. Bytes of a body give its time back.
+    fn read_held(&mut self, limits: Limits, buf: &mut [u8]) -> io::Result<usize>
+        ensures { IfOk result (λ n. n ≤ length buf.new) }
+    {
+        match self.shared.phase() {
+            Phase::Between => self.shared.head_began(),
+            Phase::Body => return self.read_held_body(limits.body_patience(), buf),
+            Phase::Stopped => return Ok(0),
+            Phase::Head | Phase::Stream => {}
+        }
+        self.inner.read_in(buf)
+    }
+
+    // Reads some of the bytes of a body that were read ahead, and fails with `TimedOut` once the time for it is over.
+    fn read_held_body(&mut self, patience: Patience, buf: &mut [u8]) -> io::Result<usize>
+        ensures { IfOk result (λ n. n ≤ length buf.new) }
+    {
+        let request = self.shared.requests();
+        self.go_to(request);
+        if self.is_late {
+            return self.body_is_late();
+        }
+        let n = self.inner.read_in(buf)?;
+        self.is_late = self.stall.count(Duration::from_secs(0), n, patience);
+        Ok(n)
+    }
+}
+
+impl<R: ReadAheadDevice + Drop, Rt: Clock> ReadDevice for TimedReader<R, Rt> {
+    /// Reads once. Bytes that were read ahead come first, without a wait. Under limits it waits at most as long as the
+    /// current phase allows; in phase `Stopped` it returns 0 without calling the inner reader. If `buf` is empty, it
+    /// returns 0 without that call, too.
     fn read_in(&mut self, buf: &mut [u8]) -> Result<usize, io::Error> {
         if buf.is_empty() {
             return Ok(0);
         }
         let Some(limits) = self.shared.limits() else {
+            self.wait_for(None);
             return self.inner.read_in(buf);
         };
-        let (first, head) = (limits.idle_time, limits.head_time);
-        let (body, stream) = (limits.body_patience(), limits.stream_time);
+        let limits = *limits;
+        if !self.inner.ahead().is_empty() {
+            return self.read_held(limits, buf);
+        }
         let request = self.shared.requests();
         self.go_to(request);
         match self.shared.phase() {
-            Phase::Between => self.read_first(first, buf),
-            Phase::Head => self.read_head(head, buf),
-            Phase::Body => self.read_body(body, buf),
-            Phase::Stream => self.read_stream(stream, buf),
+            Phase::Between => self.read_first(limits.idle_time, buf),
+            Phase::Head => self.read_head(limits.head_time, buf),
+            Phase::Body => self.read_body(limits.body_patience(), buf),
+            Phase::Stream => self.read_stream(limits.stream_time, buf),
             Phase::Stopped => Ok(0),
         }
+    }
+}
+
+impl<R: ReadAheadDevice + Drop, Rt: Clock> ReadAheadDevice for TimedReader<R, Rt> {
+    /// Returns the bytes that were read ahead.
+    fn ahead(&self) -> &[u8] {
+        self.inner.ahead()
+    }
+
+    /// Returns how many more bytes can be read ahead.
+    fn ahead_room(&self) -> usize {
+        self.inner.ahead_room()
+    }
+
+    /// Returns whether the last read of the socket returned fewer bytes than it asked for, or failed.
+    fn is_drained(&self) -> bool {
+        self.inner.is_drained()
+    }
+
+    /// Reads ahead once, for which it waits a millisecond at most. Records that a head has begun if a byte came.
+    fn read_ahead(&mut self) -> Result<usize, io::Error> {
+        self.wait_for(Some(Duration::from_millis(AHEAD_MILLIS)));
+        let n = self.inner.read_ahead()?;
+        if n > 0 {
+            self.shared.head_began();
+        }
+        Ok(n)
+    }
+
+    /// Frees the memory of the bytes that are read ahead, if none is held.
+    fn release_ahead(&mut self) {
+        self.inner.release_ahead()
     }
 }

@@ -2,8 +2,8 @@
 ghost use Rattle.std.specs.Prelude.{◌≡◌, ◌++◌, Ok, IfOk, IfErr};
 ghost use Rattle.std.specs.IoError.{error_kind};
 
-use crate::shared_state::{SharedState, fault_in_time};
 use crate::refined_tcp_stream::RefinedTcpStream;
+use crate::shared_state::{SharedState, fault_in_time};
 use crate::write_both::WriteBoth;
 use std::io;
 use std::io::ErrorKind;

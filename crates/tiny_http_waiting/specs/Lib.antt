@@ -1,1 +1,2 @@
 pub mod WaitTable
+pub mod WaitTableLaw

@@ -1,5 +1,5 @@
-//! The bookkeeping of a server whose connections wait without a thread, as plain values: which connections wait for
-//! their sockets, which are served, and when a wait is over. The crate depends only on the standard library.
+//! The bookkeeping of a server whose connections wait without a thread, as plain values: which connections wait for an
+//! event on their socket, which are served, and when a wait is over. The crate depends only on the standard library.
 #![tactic(auto)]
 
 pub mod laws;

@@ -1,7 +1,8 @@
 //! The table of the connections that wait or are served.
-ghost use Rattle.std.specs.Prelude.{◌≡◌, ◌-◌, ◌≤◌, ℕ, [], slice_get, IfSome, IfNone};
+ghost use Rattle.std.specs.Prelude.{◌≡◌, ◌↔◌, ◌-◌, ◌≤◌, ℕ, [], slice_get, All, IfSome, IfNone, IsTrue};
 ghost use Rattle.std.specs.Duration.{as_nanos};
 ghost use Rattle.tiny_http_waiting.specs.WaitTable.{event_at, wait_at, leave_at, Enters, TakesLate, WaitsUntil};
+ghost use Rattle.tiny_http_waiting.specs.WaitTable.{IsOver, NoneWaits, NoWaitIsOver, NoWaitEndsBefore};
 
 use std::alloc::{AllocError, Global};
 use std::marker::Model;
@@ -13,16 +14,16 @@ use std::time::Duration;
 pub enum Slot<T> {
     /// No connection has the token.
     Free,
-    /// Its connection waits for an event, until this time at most. This is its item.
+    /// The connection waits for an event, at most until this time. The table holds its item.
     Waiting(T, Duration),
-    /// Its connection is served. The flag is true once an event has come since the item was handed out.
+    /// The connection is served. The flag is whether an event has come since its item was handed out.
     Served(bool),
 }
 
 impl<T> Slot<T> {
     ghost use Rattle.tiny_http_waiting.specs.WaitTable.{after_event, item_of, after_wait, item_at_wait};
 
-    // Returns the state after an event, and the item to be served, if the connection waited.
+    // Returns the state after an event, and the item if the connection waited.
     fn at_event(self) -> (Slot<T>, Option<T>)
         ensures { result ≡ (after_event self, item_of self) }
     {
@@ -33,7 +34,7 @@ impl<T> Slot<T> {
         }
     }
 
-    // Returns the state after a served connection is to wait until this time, and its item if it must be served again.
+    // Returns the state after a call to `wait`, and the item if it isn't stored.
     fn at_wait(self, item: T, until: Duration) -> (Slot<T>, Option<T>)
         ensures { result ≡ (after_wait item until self, item_at_wait item self) }
     {
@@ -44,7 +45,7 @@ impl<T> Slot<T> {
         }
     }
 
-    // Returns the item of a connection that waits.
+    // Returns the item if the connection waits.
     fn into_item(self) -> Option<T>
         ensures { result ≡ item_of self }
     {
@@ -54,21 +55,22 @@ impl<T> Slot<T> {
         }
     }
 
-    // Returns the time at which the wait is over, if the connection waits.
-    fn until(&self) -> Option<Duration> {
+    // Returns `true` if no connection has the token.
+    fn is_free(&self) -> bool
+        ensures { IsTrue result ↔ (self.now ≡ Slot.Free) }
+    {
         match self {
-            Slot::Waiting(_, until) => Some(*until),
-            Slot::Served(_) | Slot::Free => None,
+            Slot::Free => true,
+            Slot::Waiting(_, _) | Slot::Served(_) => false,
         }
     }
 }
 
-/// The connections of a server that wait for an event of their socket, with an item each, and those that are served.
+/// The connections of a server that wait for an event on their socket, and those that are served.
 ///
-/// Each connection has a token. `enter` makes it a served one. `wait` stores the item of a served connection, and
-/// `event`, `take_late` and `leave` hand it out again: so at any time the table or one caller has the item. An event for a
-/// connection that is served is kept, and makes the next `wait` hand the item back. A contract sees the slots of the
-/// tokens 0, 1 and so on.
+/// Each connection has a token and an item. `wait` stores the item, and `event`, `take_late` and `leave` hand it out,
+/// so either the table or one caller has it. An event for a connection that is served is kept, and makes the next
+/// `wait` hand the item back. Contracts see the slot of each token, from token 0 on.
 #[derive(Drop)]
 pub struct WaitTable<T> {
     slots: Vec<Slot<T>>,
@@ -80,14 +82,14 @@ pub struct WaitTable<T> {
 
 impl<T> Model for WaitTable<T> {
     ghost use Rattle.std.specs.Prelude.{List};
-    ghost use Rattle.tiny_http_waiting.specs.WaitTable.{AreNotBefore};
     ghost use Rattle.tiny_http_waiting.specs.declared.wait_table.Slot.{Slot};
+    ghost use Rattle.tiny_http_waiting.specs.WaitTable.{NoWaitEndsBefore};
 
     ghost Value = { List (Slot T) };
 
     ghost view = { λ t. t.slots.items };
 
-    ghost invariant = { λ t. AreNotBefore t.earliest t.slots.items };
+    ghost invariant = { λ t. NoWaitEndsBefore t.earliest t.slots.items };
 }
 
 impl<T: Drop> WaitTable<T> {
@@ -102,8 +104,15 @@ impl<T: Drop> WaitTable<T> {
         }
     }
 
-    /// Adds a connection that is served, for which no event has come, and returns its token, which no other connection
-    /// has. Fails if memory is refused; then nothing has changed.
+    /// Returns `true` if no token is in use.
+    pub fn is_empty(&self) -> bool
+        ensures { IsTrue result ↔ All (λ slot. slot ≡ Slot.Free) self.now }
+    {
+        self.slots.iter().all(|slot| slot.is_free())
+    }
+
+    /// Adds a connection that is served, with no event kept, and returns its token, which no other connection has.
+    /// Fails if memory is refused, and then changes nothing.
     pub fn enter(&mut self) -> Result<usize, AllocError>
         ensures { Enters self.old result self.new }
     {
@@ -118,8 +127,9 @@ impl<T: Drop> WaitTable<T> {
         Ok(token)
     }
 
-    /// Records an event of the socket with this token. If its connection waits, the connection is served from now on,
-    /// and its item is returned. If it is served, the event is kept until the next `wait`. Otherwise nothing changes.
+    /// Records an event on the socket with this token. If its connection waits, returns its item, and the connection is
+    /// served from then on. If it is served, the event is kept until the next `wait`. If no connection has the token,
+    /// nothing changes.
     pub fn event(&mut self, token: usize) -> Option<T>
         ensures { (result, self.new) ≡ event_at (slice_get self.old token) token self.old }
     {
@@ -129,73 +139,107 @@ impl<T: Drop> WaitTable<T> {
         item
     }
 
-    /// Makes a served connection wait for an event, until this time of a monotonic clock. If an event has come since
-    /// its item was handed out, hands the item back: the connection must be served again. Hands the item back, too, with
-    /// nothing changed, if the connection of this token isn't served.
+    /// Makes a served connection wait for an event, at most until this time of a monotonic clock, and stores its item.
+    /// Returns the item if an event has come since it was handed out; the connection is then still served, and the
+    /// event is no longer kept. Returns the item and changes nothing if no served connection has this token.
     pub fn wait(&mut self, token: usize, item: T, until: Duration) -> Option<T>
         ensures { (result, self.new) ≡ wait_at (slice_get self.old token) token item until self.old }
     {
         let Some(slot) = self.slots.get_mut(token) else {
             return Some(item);
         };
-        let (after, item) = mem::replace(slot, Slot::Free).at_wait(item, until);
+        let (after, back) = mem::replace(slot, Slot::Free).at_wait(item, until);
         *slot = after;
-        if item.is_none() {
-            self.earliest = Some(self.earliest.map_or(until, |earliest| earliest.min(until)));
+        if back.is_none() {
+            self.earliest = Some(earlier(self.earliest, until));
         }
-        item
+        back
     }
 
-    /// Removes the connection with this token. Returns its item if it waited.
+    /// Removes the connection with this token, and returns its item if it waited.
     pub fn leave(&mut self, token: usize) -> Option<T>
         ensures { (result, self.new) ≡ leave_at (slice_get self.old token) token self.old }
     {
         let slot = self.slots.get_mut(token)?;
-        let item = mem::replace(slot, Slot::Free).into_item();
-        let _ = self.free.push(token);
-        item
+        let before = mem::replace(slot, Slot::Free);
+        if !before.is_free() {
+            // If memory is refused, the token isn't used again.
+            let _ = self.free.push(token);
+        }
+        before.into_item()
     }
 
-    /// Takes the item of a connection whose wait is over at `now`, with its token. The connection is then served, and no
-    /// event has come for it. Returns `None` if no wait is over.
+    /// Takes the item of a connection whose wait is over at `now`, with its token. The connection is then served, with
+    /// no event kept. Returns `None` if no wait is over.
     pub fn take_late(&mut self, now: Duration) -> Option<(usize, T)>
         ensures { TakesLate (as_nanos now) self.old result self.new }
     {
         let earliest = self.earliest?;
-        if now < earliest {
+        if !is_over(earliest, now) {
             return None;
         }
-        match self.late_token(now) {
-            Some(token) => {
-                let item = mem::replace(&mut self.slots[token], Slot::Served(false)).into_item()?;
-                Some((token, item))
-            }
-            None => {
-                self.earliest = self.earliest_end();
-                None
-            }
-        }
+        let Some(token) = late_token(&self.slots, now) else {
+            self.earliest = earliest_end(&self.slots);
+            return None;
+        };
+        let item = mem::replace(&mut self.slots[token], Slot::Served(false)).into_item()?;
+        Some((token, item))
     }
 
-    // Returns the first token whose connection waits and whose wait is over at `now`.
-    fn late_token(&self, now: Duration) -> Option<usize> {
-        self.slots
-            .iter()
-            .position(|slot| slot.until().is_some_and(|until| until <= now))
-    }
-
-    // Returns the earliest time at which a wait is over, or `None` if no connection waits.
-    fn earliest_end(&self) -> Option<Duration> {
-        self.slots.iter().filter_map(Slot::until).min()
-    }
-
-    /// Returns how long at most to wait at `now` for events, before `take_late` is called. If it returns `None`, no
-    /// connection waits; otherwise no wait is over before that time has passed.
+    /// Returns how long the caller may wait for events at `now` before it calls `take_late`: no wait is over sooner.
+    /// Returns `None` only if no connection waits.
     pub fn time_left(&self, now: Duration) -> Option<Duration>
-        ensures none { IfNone result ((token : ℕ) (item : T) (until : Duration) → WaitsUntil self.now token item until → ⊥) }
+        ensures none { IfNone result (NoneWaits self.now) }
         ensures some { IfSome result (λ left. (token : ℕ) (item : T) (until : Duration)
-            → WaitsUntil self.now token item until → as_nanos left ≤ as_nanos until - as_nanos now) }
+            → WaitsUntil self.now token item until
+            → as_nanos left ≤ as_nanos until - as_nanos now) }
     {
         Some(self.earliest?.saturating_sub(now))
     }
+}
+
+// Returns `true` if a wait until this time is over at `now`.
+fn is_over(until: Duration, now: Duration) -> bool
+    ensures { IsTrue result ↔ (as_nanos until ≤ as_nanos now) }
+{
+    until.as_nanos() <= now.as_nanos()
+}
+
+// Returns the earlier of two times, or the second if there is no first.
+fn earlier(first: Option<Duration>, second: Duration) -> Duration
+    ensures first { IfSome first (λ time. as_nanos result ≤ as_nanos time) }
+    ensures second { as_nanos result ≤ as_nanos second }
+{
+    match first {
+        Some(time) if is_over(time, second) => time,
+        _ => second,
+    }
+}
+
+// Returns the first token whose connection waits and whose wait is over at `now`.
+fn late_token<T>(slots: &[Slot<T>], now: Duration) -> Option<usize>
+    ensures none { IfNone result (NoWaitIsOver (as_nanos now) slots.now) }
+    ensures some { IfSome result (λ token. (item : T) × IsOver (as_nanos now) slots.now token item) }
+{
+    for (token, slot) in slots.iter().enumerate() {
+        if let Slot::Waiting(_, until) = slot
+            && is_over(*until, now)
+        {
+            return Some(token);
+        }
+    }
+    None
+}
+
+// Returns the time at which the first wait ends, or `None` if no connection waits.
+fn earliest_end<T>(slots: &[Slot<T>]) -> Option<Duration>
+    ensures { NoWaitEndsBefore result slots.now }
+{
+    let mut earliest = None;
+    for slot in slots {
+        if let Slot::Waiting(_, until) = slot {
+            earliest = Some(earlier(earliest, *until));
+        }
+    }
+    earliest
 }
