@@ -85,6 +85,7 @@ fn set_limit(limits: &mut Limits, name: &str, number: usize) -> Option<()> {
         "connections" => limits.connections = number,
         "connections_of_address" => limits.connections_of_address = number,
         "open_requests" => limits.open_requests = number,
+        "workers" => limits.workers = number,
         "head_time" => limits.head_time = time,
         "idle_time" => limits.idle_time = time,
         "body_time" => limits.body_time = time,

@@ -10,14 +10,15 @@ ghost use Rattle.tiny_http_body.specs.Body.{is_streaming};
 use crate::request::Request;
 use httpdate::HttpDate;
 use std::alloc::{AllocError, Global};
+use std::io::ErrorKind;
 use std::net::SocketAddr;
 use std::sync::{Arc, Wait};
 use tiny_http_body::body::UnreadBody;
 use tiny_http_body::framing::Profile;
-use tiny_http_io::device::{ReadDevice, WriteDevice};
+use tiny_http_io::device::{Canned, ReadAheadDevice, ReadDevice, WriteDevice};
 use tiny_http_io::outlet::Outlet;
-use tiny_http_io::source::Source;
-use tiny_http_open_request::exchange::{EndOfRequests, Head};
+use tiny_http_io::source::{InputState, Source};
+use tiny_http_open_request::exchange::{EndOfRequests, Head, read_head_with};
 use tiny_http_open_request::next_request::{NextRequest, RefusalPlace, next_request};
 use tiny_http_open_request::open_request::OpenRequest;
 use tiny_http_socket::cork::FlushPolicy;
@@ -367,6 +368,131 @@ impl<R: ReadDevice + Drop, W: WriteDevice + Drop, Rt: Wait + Copy> ClientConnect
             links,
         ))
     }
+}
+
+/// What has come of a connection's next head.
+#[derive(Clone, Copy, Debug, PartialEq, Eq)]
+pub enum Readiness {
+    /// The whole head, or `next` returns without one: `next` doesn't wait for the client to send a head. It may still
+    /// wait for a request that is kept, and for the rest of a body that is skipped.
+    Ready,
+    /// A part of the head.
+    Part,
+    /// Nothing.
+    Idle,
+}
+
+impl<R: ReadAheadDevice + Drop, W: WriteDevice + Drop, Rt: Wait + Copy> ClientConnection<R, W, Rt> {
+    /// Returns what has come of the next head, without reading from the client.
+    pub fn readiness(&mut self, now: HttpDate) -> Readiness {
+        match self.next_source() {
+            Some((alloc, profile, source)) => readiness_of(alloc, source, profile, now),
+            None => Readiness::Ready,
+        }
+    }
+
+    /// Reads ahead what the client has sent, and returns what has come of the next head. Returns `Ready` if the rest of
+    /// the input can't be read ahead: it ends, has a fault, or is longer than there is room for.
+    pub fn read_ahead(&mut self, now: HttpDate) -> Readiness {
+        let Some((alloc, profile, source)) = self.next_source() else {
+            return Readiness::Ready;
+        };
+        for _ in 0..AHEAD_READS {
+            let room = source.ahead_room();
+            match source.read_ahead() {
+                Ok(n) if n == 0 => return Readiness::Ready,
+                Ok(n) if n == room => {
+                    if readiness_of(alloc, source, profile, now) == Readiness::Ready {
+                        return Readiness::Ready;
+                    }
+                }
+                Err(fault) if fault.kind() != ErrorKind::WouldBlock => return Readiness::Ready,
+                _ => return readiness_of(alloc, source, profile, now),
+            }
+        }
+        Readiness::Ready
+    }
+
+    /// Returns whether the last read from the client found fewer bytes than it asked for, so that no more had come. If a
+    /// request has the input, that isn't known, and the result is false.
+    pub fn is_drained(&mut self) -> bool {
+        match self.next_source() {
+            Some((_, _, source)) => source.is_drained(),
+            None => false,
+        }
+    }
+
+    /// Frees the memory of the bytes that are read ahead, if there are none.
+    pub fn release_ahead(&mut self) {
+        if let Some((_, _, source)) = self.next_source() {
+            source.release_ahead();
+        }
+    }
+
+    // Returns the input and how its next head is read, and records that the connection waits for that head. Returns
+    // `None` if a request has the input, or if no head follows.
+    fn next_source(&mut self) -> Option<(Global, Profile, &mut Source<R>)> {
+        if self.sink.is_closed() {
+            return None;
+        }
+        let Some(NextHead::Here(reader)) = &mut self.next_head else {
+            return None;
+        };
+        let source = &mut *reader.turn.item;
+        if source.stop().is_some() || source.input_state() != InputState::Head {
+            return None;
+        }
+        Some((self.alloc, self.profile, source))
+    }
+}
+
+// Maximum number of reads in one call that reads ahead.
+const AHEAD_READS: u32 = 4;
+
+// What follows the last byte of a head that has no body.
+const HEAD_END: &[u8] = b"\r\n\r\n";
+
+// The first bytes of a head that is taken to have no body.
+const PLAIN_START: &[u8] = b"GET ";
+
+// Returns what the source holds, or its reader has read ahead, of the next head.
+fn readiness_of<R: ReadAheadDevice>(
+    alloc: Global,
+    source: &Source<R>,
+    profile: Profile,
+    now: HttpDate,
+) -> Readiness {
+    let (held, ahead) = (source.held(), source.ahead());
+    if held.is_empty() && ahead.is_empty() {
+        return Readiness::Idle;
+    }
+    if held.is_empty()
+        && source.to_skip() == 0
+        && ahead.starts_with(PLAIN_START)
+        && ahead.ends_with(HEAD_END)
+    {
+        return Readiness::Ready;
+    }
+    match is_whole(alloc, source, profile, now) {
+        Ok(false) => Readiness::Part,
+        Ok(true) | Err(_) => Readiness::Ready,
+    }
+}
+
+// Returns whether the next head, with a body that is read with it, can be read from the bytes that the source holds and
+// those that its reader has read ahead: reads it from a copy. Fails if memory is refused.
+fn is_whole<R: ReadAheadDevice>(
+    alloc: Global,
+    source: &Source<R>,
+    profile: Profile,
+    now: HttpDate,
+) -> Result<bool, AllocError> {
+    let mut bytes = source.held().to_vec(alloc)?;
+    bytes.extend_from_slice(source.ahead())?;
+    let mut copy = Source::new(Canned::new(bytes, Some(ErrorKind::WouldBlock)));
+    copy.skip(source.to_skip());
+    drop(read_head_with(alloc, &mut copy, profile, now)?);
+    Ok(copy.stop().is_none())
 }
 
 // Returns where the head after a request is read from, or `None` if the request is the last: from the input if `held`

@@ -6,4 +6,5 @@ use Rattle.tiny_http_waiting.proofs.wait_table.late_token.Given as goal
 
 abbrev pub invariant-loop-token : goal.invariant-loop-token
 invariant-loop-token g l =
-    (k : ℕ) (item : g.row.T.Denot) (until : Duration) → k < l.token → WaitsUntil l.slots k item until → as_nanos l.now < as_nanos until
+    (k : ℕ) (item : g.row.T.Denot) (until : Duration) → k < l.token → WaitsUntil l.slots k item until
+    → as_nanos l.now < as_nanos until

@@ -7,7 +7,7 @@ use Rattle.tiny_http_waiting.proofs.wait_table.WaitTable.leave.Goals.{then-not-i
 pub invariant_of-self-then-not-is_free : goal.invariant_of-self-then-not-is_free
 invariant_of-self-then-not-is_free g c =
     after_set c.self.inside.earliest c.self.inside.slots.items c.args.token _ (free_set c.replace-before.ensures.after)
-      c.self.invariant
+    c.self.invariant
 
 pub returns : goal.returns
 returns g c =
@@ -16,7 +16,7 @@ returns g c =
     let before = c.replace-before in
     let found = c.in_ok-slot.ensures in
     let set : c.if-not-is_free.self ≡ slice_set slots token before.new.dest =
-      elim c.if-not-is_free.branch [ then-not-is_free w ↦ w.self-is | else-not-is_free w ↦ w.self-is ] in
+    elim c.if-not-is_free.branch [ then-not-is_free w ↦ w.self-is | else-not-is_free w ↦ w.self-is ] in
     let here = taken slots token c.in_ok-slot.slot.now before.result found.item.0 found.value before.ensures.value in
     pair c.into_item.ensures (set ∙ ap (slice_set slots token) before.ensures.after)
     ∙ at_slot (λ slot. leave_at slot token) token slots c.args.self.now before.result c.self.view_is here

@@ -7,32 +7,32 @@ invariant_of-self-then-is_none g c =
     let slots = c.self.inside.slots.items in
     let earlier = c.earlier in
     wait_stored slots earlier.result c.args.token c.args.item c.args.until c.replace.result c.at_wait-after.result
-      c.at_wait-after.ensures c.if-is_none.ensures earlier.ensures.second
-      (lowered c.self.inside.earliest slots earlier.result earlier.ensures.first c.self.invariant)
+    c.at_wait-after.ensures c.if-is_none.ensures earlier.ensures.second
+    (lowered c.self.inside.earliest slots earlier.result earlier.ensures.first c.self.invariant)
 
 pub invariant_of-self-else-is_none : goal.invariant_of-self-else-is_none
 invariant_of-self-else-is_none g c =
     let slots = c.self.inside.slots.items in
     let found = c.in-Some.ensures in
     let here : slice_get slots c.args.token ≡ Some c.replace.result =
-      taken slots c.args.token c.in-Some.slot.now c.replace.result found.item.0 found.value c.replace.ensures.value in
+    taken slots c.args.token c.in-Some.slot.now c.replace.result found.item.0 found.value c.replace.ensures.value in
     wait_back c.self.inside.earliest slots c.args.token c.args.item c.args.until c.replace.result c.at_wait-after.result
-      here c.at_wait-after.ensures c.if-is_none.ensures c.self.invariant
+    here c.at_wait-after.ensures c.if-is_none.ensures c.self.invariant
 
 pub returns-then-is_none : goal.returns-then-is_none
 returns-then-is_none g c =
     let slots = c.self.inside.slots.items in
     let found = c.in-Some.ensures in
     let here : slice_get slots c.args.token ≡ Some c.replace.result =
-      taken slots c.args.token c.in-Some.slot.now c.replace.result found.item.0 found.value c.replace.ensures.value in
+    taken slots c.args.token c.in-Some.slot.now c.replace.result found.item.0 found.value c.replace.ensures.value in
     wait_answer slots c.args.self.now c.args.token c.args.item c.args.until c.replace.result c.at_wait-after.result
-      c.self.view_is here c.at_wait-after.ensures
+    c.self.view_is here c.at_wait-after.ensures
 
 pub returns-else-is_none : goal.returns-else-is_none
 returns-else-is_none g c =
     let slots = c.self.inside.slots.items in
     let found = c.in-Some.ensures in
     let here : slice_get slots c.args.token ≡ Some c.replace.result =
-      taken slots c.args.token c.in-Some.slot.now c.replace.result found.item.0 found.value c.replace.ensures.value in
+    taken slots c.args.token c.in-Some.slot.now c.replace.result found.item.0 found.value c.replace.ensures.value in
     wait_answer slots c.args.self.now c.args.token c.args.item c.args.until c.replace.result c.at_wait-after.result
-      c.self.view_is here c.at_wait-after.ensures
+    c.self.view_is here c.at_wait-after.ensures
