@@ -1,5 +1,5 @@
-//! The calls to the system that serving a folder needs, as a separate trait, since code that is generic over `Files`
-//! can't be shared by threads.
+//! The system calls that serving a folder needs, as a separate trait, since a handler that is generic over `Files`
+//! can't be shared between threads.
 use std::alloc::{AllocGlobal, Global};
 use std::fs::{File, Files, OpenFile};
 use std::time::SystemTime;
@@ -23,7 +23,7 @@ pub(crate) trait Disk {
     /// Returns the canonical path, with links resolved, or `None` if it isn't UTF-8.
     fn real_path(&self, alloc: Global, path: &str) -> io::Result<Option<String>>;
 
-    /// Returns the sorted names of the entries of a folder that can be read and whose names are UTF-8.
+    /// Returns the names of a folder's entries, sorted, without entries that can't be read or whose names aren't UTF-8.
     fn names_in(&self, alloc: Global, path: &str) -> io::Result<Vec<String>>;
 }
 

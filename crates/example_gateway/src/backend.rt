@@ -9,8 +9,8 @@ use tiny_http_client::answer_head::{AnswerHead, read_answer_head};
 /// Maximum number of bytes that are forwarded at a time.
 pub(crate) const PIECE: usize = 8192;
 
-// Length in bytes above which a response's head, with the interim heads before it, is refused if it is still
-// incomplete.
+// Length in bytes above which a response's head is refused if it is still incomplete. The interim heads before it
+// count, too, once a read brings an LF.
 const LONGEST_HEADS: usize = 65_536;
 
 // Seconds after which a backend that accepts no bytes, or sends no response, has timed out.

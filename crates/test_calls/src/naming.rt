@@ -142,7 +142,7 @@ fn bare_call(name: &str) -> Option<Call> {
     }
 }
 
-// Parses the words of the call of this name, which takes words.
+// Parses the words of a call that takes words. Fails if no such call has this name.
 fn worded_call(alloc: Global, name: &str, words: &str) -> Result<Call, LineFault> {
     match name {
         "Decoder" => Ok(Call::Decoder(chunk_rules(words)?)),

@@ -27,7 +27,8 @@ fn chunk(alloc: Global, bytes: &[u8]) -> Result<Vec<u8>, Fail> {
     Ok(text)
 }
 
-// A write accepts at most a full chunk if no chunk is begun, and otherwise at most what fills the chunk.
+// If no chunk has been started, a write accepts at most a full chunk; otherwise it accepts at most the bytes that
+// complete the current one.
 #[test]
 fn what_a_write_takes(rt: HostRuntime) -> Result<(), Fail> {
     let bytes = data(rt.alloc(), 20_000)?;

@@ -4,42 +4,30 @@
 ghost use Rattle.std.specs.Prelude.{◌≡◌};
 ghost use Rattle.tiny_http.specs.Message.{received};
 
+use crate::arrival::{Arrival, Client};
 use crate::ending::Ending;
 use crate::faults::passes;
-use crate::registry::{ConnectionGuard, ConnectionHandle, ConnectionRegistry, time_of};
-use crate::server::{ServerReader, ServerRequest, ServerWriter, current_date};
-use crate::serving::Handler;
+use crate::registry::{ConnectionGuard, ConnectionHandle, ConnectionRegistry};
+use crate::server::{ServerReader, ServerRequest, ServerWriter};
 use std::alloc::Global;
-use std::net::{Shutdown, SocketAddr};
+use std::net::SocketAddr;
 use std::sync::atomic::{AtomicBool, Ordering};
 use std::sync::{Arc, Wait};
 use std::thread::Threads;
-use std::time::{Clock, Duration};
+use std::time::Clock;
 use std::{io, thread};
 use tiny_http_core::framing::Profile;
 use tiny_http_limits::backoff::Backoff;
 use tiny_http_limits::limits::Limits;
-use tiny_http_limits::times::time_left;
 use tiny_http_request::client::ClientConnection;
 use tiny_http_socket::connection::{Connection, Listener};
-use tiny_http_socket::cork::{Cork, halves};
+use tiny_http_socket::cork::halves;
 use tiny_http_socket::refined_tcp_stream::RefinedTcpStream;
 use tiny_http_socket::shared_state::SharedState;
 use tiny_http_socket::timed_reader::TimedReader;
 use tiny_http_socket::timed_writer::TimedWriter;
 use tiny_http_threads::messages_queue::MessagesQueue;
 use tiny_http_threads::task_pool::{Job, TaskPool};
-
-// Timeout of a read while a closing connection is drained, in milliseconds.
-const LINGER_MILLIS: u64 = 500;
-
-// Maximum time to drain a closing connection under limits, in seconds.
-const LINGER_SECS: u64 = 5;
-
-// Size of a read while a closing connection is drained, and the maximum number of such reads: 64 MiB in all.
-const LINGER_PIECE: usize = 16_384;
-
-const LINGER_READS: u32 = 4_096;
 
 /// A message in a server's queue.
 #[derive(Drop)]
@@ -80,143 +68,14 @@ pub(crate) type Messages<R> = MessagesQueue<Message<R>>;
 
 // Empties the queue of a closed server. Once the server has been stopped, also leaves an unblock mark in the queue, so
 // that each waiting call returns.
-fn drop_waiting<R: Wait + Clock + Drop>(rt: &R, messages: &Messages<R>, ending: &Ending) {
+pub(crate) fn drop_waiting<R: Wait + Clock + Drop>(
+    rt: &R,
+    messages: &Messages<R>,
+    ending: &Ending,
+) {
     messages.clear(rt);
     if ending.has_stopped() {
         let _ = messages.unblock(rt);
-    }
-}
-
-// Closes a connection in stages, after all its requests are answered (RFC 9112, section 9.6): shuts down writing, then
-// discards what the client still sends, until the client closes, is silent for too long or sends too much. Under limits
-// no read begins after 5 seconds. If the read timeout can't be set, nothing is discarded. A connection that is closed
-// with unread bytes is reset, and the client may lose the last response.
-fn close_in_stages<R: Clock>(rt: &R, socket: &Connection, has_limits: bool) {
-    let begun = time_of(rt);
-    let most = Duration::from_secs(LINGER_SECS);
-    let _ = socket.shutdown(Shutdown::Write);
-    if socket
-        .set_read_timeout(Duration::from_millis(LINGER_MILLIS))
-        .is_err()
-    {
-        return;
-    }
-    let mut away = [0u8; LINGER_PIECE];
-    for _ in 0..LINGER_READS {
-        match socket.read_shared(&mut away) {
-            Ok(0) | Err(_) => return,
-            Ok(_) if has_limits && time_left(begun, time_of(rt), most).is_none() => return,
-            Ok(_) => {}
-        }
-    }
-}
-
-/// An accepted client. When it is dropped, its connection is closed as soon as no request that is still held uses the
-/// connection.
-#[derive(Drop)]
-pub(crate) struct Client<R: Wait + Clock + Drop> {
-    rt: R,
-    ending: Arc<Ending>,
-    connection: ClientConnection<ServerReader<R>, ServerWriter<R>, R>,
-    // Shared by the two halves of the connection.
-    cork: Arc<Cork<TimedWriter<R>>>,
-    // Used to close the connection.
-    socket: Arc<Connection>,
-    has_limits: bool,
-    // Counts the client as connected until it is dropped.
-    guard: ConnectionGuard<R>,
-}
-
-impl<R: Wait + Clock + Copy> Client<R> {
-    // Puts the client's requests into the queue until there is no further one. Once the server serves with a handler,
-    // returns the next request instead of queuing it. A request is dropped if the queue has no room for it. Once the
-    // server has been closed, nothing takes requests from the queue, so a thread that adds one then empties the queue.
-    fn read_requests(
-        &mut self,
-        messages: &Messages<R>,
-        serving: &AtomicBool,
-    ) -> Option<ServerRequest<R>> {
-        let rt = self.rt;
-        for _ in rt.forever() {
-            let now = current_date(&rt);
-            let Ok(Some(request)) = self.connection.next(now) else {
-                return None;
-            };
-            if serving.load(Ordering::SeqCst) {
-                return Some(request);
-            }
-            let _ = messages.push(&rt, Message::NewRequest(request));
-            if self.ending.is_closed() {
-                drop_waiting(&rt, messages, &self.ending);
-                return None;
-            }
-        }
-        None
-    }
-
-    // Hands the client's requests to a handler until there is no further one. Consecutive responses leave together.
-    // Once the server has been closed, the next request is dropped and is the last.
-    fn answer_requests<H: Handler<R, ServerRequest<R>>>(&mut self, alloc: Global, handler: &H) {
-        let Ok(flush_policy) = Arc::try_clone(self.cork.flush_policy()) else {
-            return;
-        };
-        self.connection.set_flush_policy(flush_policy);
-        let rt = self.rt;
-        for _ in rt.forever() {
-            let now = current_date(&rt);
-            let Ok(Some(request)) = self.connection.next(now) else {
-                return;
-            };
-            if self.ending.is_closed() {
-                return;
-            }
-            self.cork.send_unless_leaving();
-            let _ = handler.handle(&rt, alloc, request);
-        }
-    }
-
-    // Waits until all the client's requests are answered, and closes the connection.
-    fn close(&mut self) {
-        self.cork.send();
-        if self.connection.wait_for_answers().is_ok() {
-            close_in_stages(&self.rt, &self.socket, self.has_limits);
-        }
-    }
-}
-
-/// A client that is to be served, and its next request, if that was read already.
-#[derive(Drop)]
-pub(crate) struct Arrival<R: Wait + Clock + Drop> {
-    client: Client<R>,
-    next: Option<ServerRequest<R>>,
-}
-
-impl<R: Wait + Clock + Copy> Arrival<R> {
-    // Puts the client into the queue. Once the server has been closed, nothing takes a client from the queue, so this
-    // call then empties it.
-    fn put(self, rt: &R, messages: &Messages<R>, ending: &Ending) {
-        let _ = messages.push(rt, Message::NewClient(self));
-        if ending.is_closed() {
-            drop_waiting(rt, messages, ending);
-        }
-    }
-
-    /// Hands the client's requests to a handler, waits until all are answered, and closes the connection. Once the
-    /// server has been closed, the next request is dropped and is the last.
-    pub fn answer_by<H: Handler<R, ServerRequest<R>>>(&mut self, alloc: Global, handler: &H) {
-        let next = self.next.take();
-        if self.client.ending.is_closed() {
-            // `close` would wait for a request that is held.
-            drop(next);
-        } else {
-            if let Some(request) = next
-                && !request.is_lost()
-            {
-                let _ = handler.handle(&self.client.rt, alloc, request);
-            }
-            self.client.answer_requests(alloc, handler);
-        }
-        self.client.close();
     }
 }
 
@@ -242,8 +101,7 @@ impl<R: Wait + Clock + Copy> Job for Reading<R> {
         };
         let rt = client.rt;
         if let Ok(ending) = Arc::try_clone(&client.ending) {
-            let next = Some(request);
-            Arrival { client, next }.put(&rt, &self.messages, &ending);
+            Arrival::new(client, Some(request)).put(&rt, &self.messages, &ending);
         }
     }
 }
@@ -307,8 +165,7 @@ impl<R: Wait + Clock + Threads + Copy + Send + 'static> Accepting<R> {
             return;
         };
         if self.serving.load(Ordering::SeqCst) {
-            let arrival = Arrival { client, next: None };
-            arrival.put(&self.rt, &self.messages, &self.ending);
+            Arrival::new(client, None).put(&self.rt, &self.messages, &self.ending);
             return;
         }
         if let (Ok(messages), Ok(serving)) = (
@@ -354,14 +211,17 @@ impl<R: Wait + Clock + Threads + Copy + Send + 'static> Accepting<R> {
             secure,
         );
         let mut connection = made.ok()?;
-        connection.set_shared_state(shared).ok()?;
+        connection
+            .set_shared_state(Arc::try_clone(&shared).ok()?)
+            .ok()?;
         Some(Client {
             rt,
             ending,
             connection,
             cork,
             socket,
-            has_limits: self.limits.is_some(),
+            shared,
+            was_drained: false,
             guard,
         })
     }

@@ -17,8 +17,8 @@
 //!
 //! `Request::respond_streaming` begins a response whose body grows while it is sent, such as server-sent events.
 //!
-//! `Server::serve_by` runs this loop on several threads, with a `Handler`. `Server::serve` has the worker of each
-//! connection respond to that connection's requests itself.
+//! `Server::serve` calls a `Handler` on a worker whenever a request has come; a connection that waits takes no thread.
+//! `Server::serve_by` runs the loop above on several threads, with a `Handler`.
 //!
 //! A call that needs the runtime, which locks, waits and opens sockets, or the allocator gets it as an argument:
 //! neither is implicit. A program depends on `httpdate` if it makes dates, and on the crate of each error that `?`
@@ -37,6 +37,9 @@
 #![tactic(auto)]
 
 mod accepting;
+mod arrival;
+mod closing;
+mod crew;
 mod ending;
 mod faults;
 pub mod laws;

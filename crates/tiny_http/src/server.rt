@@ -199,8 +199,8 @@ impl SslConfig {
 /// 500. The connection of a later request ends with that request; the connection of a queued request ends with its next
 /// request, or when the client closes it. A client that is being accepted at that moment may be turned away.
 ///
-/// The date of a request is read before the wait for its head, so on an idle connection that date is older than the
-/// request. If the request is dropped, its 500 has this date.
+/// The date of a request is read once its head has come with `serve`, and otherwise before the wait for its head, so on
+/// an idle connection that date is older than the request. If the request is dropped, its 500 has this date.
 pub struct Server<R: Net + SocketFiles + Wait + Clock + Drop> {
     pub(crate) rt: R,
     ending: Arc<Ending>,
@@ -208,6 +208,8 @@ pub struct Server<R: Net + SocketFiles + Wait + Clock + Drop> {
     pub(crate) serving: Arc<AtomicBool>,
     pub(crate) messages: Arc<Messages<R>>,
     pub(crate) registry: Arc<ConnectionRegistry>,
+    // Maximum number of workers of a call to `serve`.
+    pub(crate) most_workers: usize,
     listening_addr: ListenAddr,
 }
 
@@ -379,6 +381,7 @@ impl<R: ServerRuntime> Server<R> {
         let serving = Arc::new(alloc, AtomicBool::new(false))?;
         let messages = MessagesQueue::with_capacity(alloc, QUEUE_ROOM)?;
         let registry = ConnectionRegistry::new(alloc, limits.as_ref())?;
+        let most_workers = limits.as_ref().map_or(usize::MAX, |limits| limits.workers);
         let accepting = Accepting {
             rt,
             alloc,
@@ -400,6 +403,7 @@ impl<R: ServerRuntime> Server<R> {
             serving,
             messages,
             registry,
+            most_workers,
             listening_addr,
         })
     }
@@ -580,6 +584,7 @@ impl<R: Net + SocketFiles + Wait + Clock + Drop> Drop for Server<R> {
             serving: _,
             messages: _,
             registry: _,
+            most_workers: _,
             listening_addr: _,
         } = self;
     }

@@ -1,7 +1,9 @@
-//! Serving with a handler. With `serve` the worker of each connection responds to that connection's requests itself,
-//! one after another, without a queue or another thread between, and consecutive responses leave together. With
+//! Serving with a handler. With `serve` a worker takes a connection once a request has come, and responds itself,
+//! without another thread between; consecutive responses leave together. A connection that waits takes no worker. With
 //! `serve_by` a fixed number of threads receive the requests of all connections.
-use crate::accepting::{Arrival, Message};
+use crate::accepting::Message;
+use crate::arrival::Arrival;
+use crate::crew::{Crew, Progress, Task};
 use crate::server::{Host, Server, ServerRequest, ServerRuntime};
 use std::alloc::Global;
 use std::io::ErrorKind;
@@ -9,7 +11,6 @@ use std::sync::atomic::{AtomicUsize, Ordering};
 use std::sync::{Arc, Wait};
 use std::time::Clock;
 use std::{io, thread};
-use tiny_http_threads::task_pool::{Job, TaskPool};
 
 /// A handler of requests. `Q` is `ServerRequest<R>`, or any `Request`, so that a test can make one. Many threads call
 /// it at once. (The request's type is a parameter, since no generated proof covers an implementation whose trait names
@@ -36,7 +37,7 @@ pub trait Handler<R, Q> {
 // The task of a worker.
 #[derive(Drop)]
 enum Work<R: Wait + Clock + Drop> {
-    // Responds to the requests of a client, then closes its connection.
+    // Responds to the requests of a client as they come, then closes its connection.
     Client(Arrival<R>),
     // Responds to a request that was queued before the server began to serve. `None` once the request has been taken.
     Request(R, Option<ServerRequest<R>>),
@@ -50,18 +51,19 @@ struct Service<H, R: Wait + Clock + Drop> {
     work: Work<R>,
 }
 
-impl<H: Handler<R, ServerRequest<R>> + Drop, R: Wait + Clock + Copy> Job for Service<H, R> {
-    /// Carries out the task.
-    fn run(&mut self) {
+impl<H: Handler<R, ServerRequest<R>> + Drop, R: Wait + Clock + Copy> Task for Service<H, R> {
+    /// Carries out the task, as far as it goes without a wait for the client's next head.
+    fn run(&mut self, is_late: bool) -> Progress {
         let handler = &*self.handler;
         match &mut self.work {
-            Work::Client(arrival) => arrival.answer_by(self.alloc, handler),
+            Work::Client(arrival) => arrival.answer_by(self.alloc, handler, is_late),
             Work::Request(rt, request) => {
                 if let Some(request) = request.take()
                     && !request.is_lost()
                 {
                     let _ = handler.handle(rt, self.alloc, request);
                 }
+                Progress::Over
             }
         }
     }
@@ -69,9 +71,15 @@ impl<H: Handler<R, ServerRequest<R>> + Drop, R: Wait + Clock + Copy> Job for Ser
 
 impl<R: ServerRuntime> Server<R> {
     /// Serves with this handler until `unblock` is called, the server has been stopped, or accepting ends with an
-    /// error, which is returned. It also fails if memory or threads for its first workers are refused; if there is no
-    /// worker for a later client, that client is closed. Each client has a worker, which hands the client's requests to
-    /// the handler one after another. Further workers hand the handler the requests that came before this call.
+    /// error, which is returned. It also fails if memory, descriptors or threads for its workers are refused. If they
+    /// are refused for a later client, that client is closed.
+    ///
+    /// A client takes a worker once the head of its next request, with a body that is read with it, has come whole, or
+    /// the time for it is over. The worker hands the client's requests to the handler one after another, until no
+    /// further one has come. A client that is idle, sends a head in pieces or is drained takes no worker; one that is
+    /// upgraded or whose kept request reads the input takes one. There are four workers, and more while all are busy:
+    /// up to `Limits::workers`, or any number without limits. Workers hand the handler the requests that came before
+    /// this call, too.
     ///
     /// Responses are held in a buffer of the connection, of 16,384 bytes, so a later response may report a fault of the
     /// socket. What is held is sent before the connection is read, when more comes than there is room for, when a
@@ -80,7 +88,7 @@ impl<R: ServerRuntime> Server<R> {
     /// and so does a 100.
     ///
     /// Once the first workers run, the server serves, even after this call has returned: clients that come then wait
-    /// for the next call. The clients whose workers have begun are served until the clients or the server end.
+    /// for the next call. The clients that came before are served until the clients or the server end.
     ///
     /// A client that reads no response blocks its worker once the socket takes no more, and its further requests aren't
     /// read then: a client that sends many requests has to read meanwhile.
@@ -90,12 +98,30 @@ impl<R: ServerRuntime> Server<R> {
         handler: &Arc<H>,
     ) -> io::Result<()> {
         let rt = self.rt;
-        let pool = TaskPool::new(rt, alloc)?;
+        let crew = Crew::start(rt, alloc, self.most_workers)?;
         self.serving.store(true, Ordering::SeqCst);
+        let ended = self.serve_by_crew(alloc, handler, &crew);
+        crew.close(&rt);
+        ended
+    }
+
+    // Hands the crew one client after another, until `unblock` is called or accepting ends.
+    fn serve_by_crew<H: Handler<R, ServerRequest<R>> + Send + Sync + Drop + 'static>(
+        &self,
+        alloc: Global,
+        handler: &Arc<H>,
+        crew: &Crew<Service<H, R>>,
+    ) -> io::Result<()> {
+        let rt = self.rt;
         for _ in rt.forever() {
-            let work = match self.messages.pop(&rt) {
-                Some(Message::NewClient(arrival)) => Work::Client(arrival),
-                Some(Message::NewRequest(request)) => Work::Request(rt, Some(request)),
+            let (work, socket, until) = match self.messages.pop(&rt) {
+                Some(Message::NewClient(mut arrival)) => {
+                    let (socket, until) = (arrival.socket(), arrival.begin());
+                    (Work::Client(arrival), Some(socket), until)
+                }
+                Some(Message::NewRequest(request)) => {
+                    (Work::Request(rt, Some(request)), None, None)
+                }
                 Some(Message::Error(fault)) => return Err(fault),
                 None => {
                     if self.has_stopped() {
@@ -109,7 +135,7 @@ impl<R: ServerRuntime> Server<R> {
                 handler: Arc::try_clone(handler)?,
                 work,
             };
-            let _ = pool.spawn(&rt, alloc, service);
+            crew.add(&rt, alloc, service, socket, until);
         }
         Ok(())
     }

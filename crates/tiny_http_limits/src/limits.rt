@@ -45,9 +45,9 @@ pub struct Limits {
     /// isn't read. A request is open until that request and each one before it are answered or dropped. Values below 2
     /// count as 2.
     pub open_requests: usize,
-    /// Maximum number of threads that a call to `serve` uses for its connections: 256 by default. A connection that
-    /// waits for its client to send a head takes no thread. If all threads are busy, further connections wait for one.
-    /// Values below 1 count as 1.
+    /// Maximum number of threads that a call to `serve` uses for its connections: 1000 by default. A connection that
+    /// waits for its client to send a head takes no thread; one whose handler runs, or that is upgraded, takes one. If
+    /// all threads are busy, further connections wait for one. Values below 1 count as 1.
     pub workers: usize,
 }
 
@@ -65,7 +65,7 @@ impl Limits {
         ensures ends { IsSome result.stream_time }
         ensures upgrades { result.upgrades ≡ 750 }
         ensures open_requests { result.open_requests ≡ 64 }
-        ensures workers { result.workers ≡ 256 }
+        ensures workers { result.workers ≡ 1_000 }
     {
         Limits {
             connections: 1_000,
@@ -78,7 +78,7 @@ impl Limits {
             stream_time: Some(Duration::from_secs(600)),
             upgrades: 750,
             open_requests: 64,
-            workers: 256,
+            workers: 1_000,
         }
     }
 

@@ -9,7 +9,8 @@ use tiny_http_io::outlet::Outlet;
 use tiny_http_open_request::open_request::OpenRequest;
 use tiny_http_threads::sequential::SequentialWriter;
 
-/// Makes the body the stream of an upgrade, and ends the requests if `is_last_with_stream` applies.
+/// Makes the body the stream of an upgrade. If `is_last_with_stream` holds, no further head is read from the
+/// connection.
 pub(crate) fn read_stream<R: ReadDevice + Drop, Rt: Wait + Drop>(
     open_request: &mut OpenRequest<Body<R, Rt>>,
 )

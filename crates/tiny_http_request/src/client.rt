@@ -9,6 +9,7 @@ ghost use Rattle.tiny_http_body.specs.Body.{is_streaming};
 
 use crate::request::Request;
 use httpdate::HttpDate;
+use memchr::{memchr, memmem};
 use std::alloc::{AllocError, Global};
 use std::io::ErrorKind;
 use std::net::SocketAddr;
@@ -18,7 +19,7 @@ use tiny_http_body::framing::Profile;
 use tiny_http_io::device::{Canned, ReadAheadDevice, ReadDevice, WriteDevice};
 use tiny_http_io::outlet::Outlet;
 use tiny_http_io::source::{InputState, Source};
-use tiny_http_open_request::exchange::{EndOfRequests, Head, read_head_with};
+use tiny_http_open_request::exchange::{EndOfRequests, Head, HeadRead, read_head_with};
 use tiny_http_open_request::next_request::{NextRequest, RefusalPlace, next_request};
 use tiny_http_open_request::open_request::OpenRequest;
 use tiny_http_socket::cork::FlushPolicy;
@@ -43,7 +44,8 @@ pub(crate) struct Client {
 pub(crate) struct Links {
     /// The policy by which the connection's flushes may hold their bytes back, if there is one.
     pub flush_policy: Option<Arc<FlushPolicy>>,
-    /// The state that the connection's threads share, if it is set. A request has it only if it reads from the connection.
+    /// The state that the connection's threads share, if it is set. A request has it only if it reads from the
+    /// connection.
     pub shared: Option<Arc<SharedState>>,
 }
 
@@ -224,9 +226,9 @@ impl<R: ReadDevice + Drop, W: WriteDevice + Drop, Rt: Wait + Copy> ClientConnect
     /// limit of open requests, which is at least 2: before a head, and before the response to a refused head, `next`
     /// waits until fewer are open. A `TimedReader` and a `TimedWriter` apply the other limits.
     ///
-    /// `next` returns `None` once the connection has been stopped. With limits it also returns `None` once a response has
-    /// ended the output without being whole, because its data were too short or failed, or because the writer failed;
-    /// the client of a socket then sees end of file. Fails if no further handle to the state can be made.
+    /// `next` returns `None` once the connection has been stopped. With limits it also returns `None` once a response
+    /// has ended the output without being whole, because its data were too short or failed, or because the writer
+    /// failed; the client of a socket then sees end of file. Fails if no further handle to the state can be made.
     pub fn set_shared_state(&mut self, shared: Arc<SharedState>) -> Result<(), AllocError>
         ensures over { IsOver self.new ↔ IsOver self.old }
         ensures input { client_source self.new ≡ client_source self.old }
@@ -373,8 +375,9 @@ impl<R: ReadDevice + Drop, W: WriteDevice + Drop, Rt: Wait + Copy> ClientConnect
 /// What has come of a connection's next head.
 #[derive(Clone, Copy, Debug, PartialEq, Eq)]
 pub enum Readiness {
-    /// The whole head, or `next` returns without one: `next` doesn't wait for the client to send a head. It may still
-    /// wait for a request that is kept, and for the rest of a body that is skipped.
+    /// The whole head, or `next` returns without one. It may still wait: for a request that is kept or that reads the
+    /// input, for a body that a `GET` announces, for the rest of a head of more than 16,384 bytes, and for the next
+    /// head after one that is refused with 505.
     Ready,
     /// A part of the head.
     Part,
@@ -384,36 +387,37 @@ pub enum Readiness {
 
 impl<R: ReadAheadDevice + Drop, W: WriteDevice + Drop, Rt: Wait + Copy> ClientConnection<R, W, Rt> {
     /// Returns what has come of the next head, without reading from the client.
-    pub fn readiness(&mut self, now: HttpDate) -> Readiness {
+    pub fn readiness(&mut self) -> Readiness {
         match self.next_source() {
-            Some((alloc, profile, source)) => readiness_of(alloc, source, profile, now),
+            Some((alloc, profile, source)) => readiness_of(alloc, source, profile),
             None => Readiness::Ready,
         }
     }
 
     /// Reads ahead what the client has sent, and returns what has come of the next head. Returns `Ready` if the rest of
     /// the input can't be read ahead: it ends, has a fault, or is longer than there is room for.
-    pub fn read_ahead(&mut self, now: HttpDate) -> Readiness {
+    pub fn read_ahead(&mut self) -> Readiness {
         let Some((alloc, profile, source)) = self.next_source() else {
             return Readiness::Ready;
         };
         for _ in 0..AHEAD_READS {
             let room = source.ahead_room();
             match source.read_ahead() {
-                Ok(n) if n == 0 => return Readiness::Ready,
+                Ok(0) => return Readiness::Ready,
                 Ok(n) if n == room => {
-                    if readiness_of(alloc, source, profile, now) == Readiness::Ready {
+                    if readiness_of(alloc, source, profile) == Readiness::Ready {
                         return Readiness::Ready;
                     }
                 }
                 Err(fault) if fault.kind() != ErrorKind::WouldBlock => return Readiness::Ready,
-                _ => return readiness_of(alloc, source, profile, now),
+                Ok(n) if ends_no_line(source, n) => return Readiness::Part,
+                _ => return readiness_of(alloc, source, profile),
             }
         }
         Readiness::Ready
     }
 
-    /// Returns whether the last read from the client found fewer bytes than it asked for, so that no more had come. If a
+    /// Returns whether the last read from the client found that no more had come, and that the input goes on. If a
     /// request has the input, that isn't known, and the result is false.
     pub fn is_drained(&mut self) -> bool {
         match self.next_source() {
@@ -429,12 +433,13 @@ impl<R: ReadAheadDevice + Drop, W: WriteDevice + Drop, Rt: Wait + Copy> ClientCo
         }
     }
 
-    // Returns the input and how its next head is read, and records that the connection waits for that head. Returns
-    // `None` if a request has the input, or if no head follows.
+    // Returns the input, with how its next head is read. Returns `None` if a request has the input, or if no head
+    // follows.
     fn next_source(&mut self) -> Option<(Global, Profile, &mut Source<R>)> {
         if self.sink.is_closed() {
             return None;
         }
+        self.take_input();
         let Some(NextHead::Here(reader)) = &mut self.next_head else {
             return None;
         };
@@ -443,6 +448,17 @@ impl<R: ReadAheadDevice + Drop, W: WriteDevice + Drop, Rt: Wait + Copy> ClientCo
             return None;
         }
         Some((self.alloc, self.profile, source))
+    }
+
+    // Takes the input, if the request that had it has passed it on.
+    fn take_input(&mut self) {
+        let has_come = match &mut self.next_head {
+            Some(NextHead::Behind(reader)) => reader.try_hold(),
+            _ => false,
+        };
+        if has_come && let Some(next_head) = self.next_head.take() {
+            self.next_head = Some(NextHead::Here(next_head.hold()));
+        }
     }
 }
 
@@ -460,23 +476,39 @@ fn readiness_of<R: ReadAheadDevice>(
     alloc: Global,
     source: &Source<R>,
     profile: Profile,
-    now: HttpDate,
 ) -> Readiness {
     let (held, ahead) = (source.held(), source.ahead());
     if held.is_empty() && ahead.is_empty() {
         return Readiness::Idle;
     }
-    if held.is_empty()
-        && source.to_skip() == 0
-        && ahead.starts_with(PLAIN_START)
-        && ahead.ends_with(HEAD_END)
+    let first = if held.is_empty() { ahead } else { held };
+    if source.to_skip() == 0
+        && first.starts_with(PLAIN_START)
+        && memmem::find(first, HEAD_END).is_some()
     {
         return Readiness::Ready;
     }
-    match is_whole(alloc, source, profile, now) {
+    if source.to_skip() >= held.len().saturating_add(ahead.len()) {
+        return Readiness::Part;
+    }
+    match is_whole(alloc, source, profile) {
         Ok(false) => Readiness::Part,
         Ok(true) | Err(_) => Readiness::Ready,
     }
+}
+
+// Returns whether the last `n` bytes that were read ahead end no line of a head that hasn't ended before them. So
+// whether the head is whole needn't be asked again.
+fn ends_no_line<R: ReadAheadDevice>(source: &Source<R>, n: usize) -> bool {
+    let ahead = source.ahead();
+    let Some(new) = ahead.get(ahead.len().saturating_sub(n)..) else {
+        return false;
+    };
+    source.held().is_empty()
+        && source.to_skip() == 0
+        && memchr(b'\n', new).is_none()
+        && memmem::find(ahead, b"\n\r\n").is_none()
+        && memmem::find(ahead, b"\n\n").is_none()
 }
 
 // Returns whether the next head, with a body that is read with it, can be read from the bytes that the source holds and
@@ -485,14 +517,19 @@ fn is_whole<R: ReadAheadDevice>(
     alloc: Global,
     source: &Source<R>,
     profile: Profile,
-    now: HttpDate,
 ) -> Result<bool, AllocError> {
     let mut bytes = source.held().to_vec(alloc)?;
     bytes.extend_from_slice(source.ahead())?;
     let mut copy = Source::new(Canned::new(bytes, Some(ErrorKind::WouldBlock)));
     copy.skip(source.to_skip());
-    drop(read_head_with(alloc, &mut copy, profile, now)?);
-    Ok(copy.stop().is_none())
+    let Ok(any_date) = HttpDate::from_unix_secs(0) else {
+        return Ok(true);
+    };
+    let read = read_head_with(alloc, &mut copy, profile, any_date)?;
+    Ok(!matches!(
+        read,
+        HeadRead::Ended(EndOfRequests::Fault(ErrorKind::WouldBlock))
+    ))
 }
 
 // Returns where the head after a request is read from, or `None` if the request is the last: from the input if `held`

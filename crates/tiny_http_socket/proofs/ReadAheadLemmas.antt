@@ -23,8 +23,8 @@ pub read-after : (end k : ℕ) (piece buf : List ℕ) (old new : Option Feed) (r
 read-after end k piece buf old new (Err e) fits few given = given
 read-after end k piece buf old new (Ok n) fits few given =
     ap (λ bs. prepended bs new) (ap (λ m. take (m + n) (put_mid end k piece buf)) (sym (length-take-le end piece fits))
-        ∙ take-append-add (take end piece) (buf ++ post_of end k piece) n
-        ∙ ap (λ r. take end piece ++ r) (take-append-le n buf (post_of end k piece) few))
+    ∙ take-append-add (take end piece) (buf ++ post_of end k piece) n
+    ∙ ap (λ r. take end piece ++ r) (take-append-le n buf (post_of end k piece) few))
     ∙ sym (given-given (take end piece) (take n buf) new)
     ∙ ap (λ f. prepended (take end piece) f) (sym given)
 

@@ -124,6 +124,14 @@ impl<W: WriteBoth + Drop> Cork<W> {
         }
     }
 
+    /// Frees the memory of the buffer, if no bytes are buffered and no thread holds the lock. The next write that needs
+    /// it takes it again.
+    pub fn release(&self) {
+        if let Some(mut corked) = self.corked.try_lock() {
+            corked.release();
+        }
+    }
+
     // Sends the buffered bytes if another thread has asked for that.
     fn send_if_asked<Rt: Wait>(&self, rt: &Rt) {
         if self.is_asked.load(Ordering::SeqCst) && self.is_asked.swap(false, Ordering::SeqCst) {

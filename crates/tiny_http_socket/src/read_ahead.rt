@@ -34,7 +34,7 @@ pub struct ReadAhead<R: ReadDevice> {
     piece: Vec<u8>,
     start: usize,
     end: usize,
-    // Whether the last read of the inner reader returned fewer bytes than it asked for, or failed.
+    // Whether the last read of the inner reader returned fewer bytes than it asked for, but not none, or failed.
     is_drained: bool,
 }
 
@@ -142,8 +142,8 @@ impl<R: ReadDevice> ReadAhead<R> {
         n
     }
 
-    // Reads at most a piece from the inner reader. Returns false, with nothing read, if memory for the piece is refused.
-    // No bytes may be held when it is called.
+    // Reads at most a piece from the inner reader. Returns false, with nothing read, if memory for the piece is
+    // refused. No bytes may be held when it is called.
     fn fill(&mut self) -> Result<bool, io::Error>
         requires none { self.old.held ≡ [] }
         ensures bytes { result ≡ Ok true → self.old.feed ≡ ahead_feed self.new }
@@ -163,7 +163,7 @@ impl<R: ReadDevice> ReadAhead<R> {
         self.end = 0;
         self.is_drained = true;
         self.end = read?;
-        self.is_drained = self.end < PIECE;
+        self.is_drained = 0 < self.end && self.end < PIECE;
         Ok(true)
     }
 
@@ -191,8 +191,8 @@ impl<R: ReadDevice> ReadAhead<R> {
         self.read_more(buf)
     }
 
-    // Reads some bytes from the inner reader: directly into `buf` if that has room for a piece, or if memory for a piece
-    // is refused; otherwise it reads a piece and copies what fits. No bytes may be held when it is called.
+    // Reads some bytes from the inner reader: directly into `buf` if that has room for a piece, or if memory for a
+    // piece is refused; otherwise it reads a piece and copies what fits. No bytes may be held when it is called.
     fn read_more(&mut self, buf: &mut [u8]) -> Result<usize, io::Error>
         requires none { self.old.held ≡ [] }
         ensures reads { Reads self.old.feed (ahead_feed self.new) result buf.new }
@@ -216,7 +216,7 @@ impl<R: ReadDevice> ReadAhead<R> {
     {
         let read = self.reader.read_in(buf);
         self.is_drained = match &read {
-            Ok(n) => *n < buf.len(),
+            Ok(n) => 0 < *n && *n < buf.len(),
             Err(_) => true,
         };
         read
@@ -236,7 +236,8 @@ impl<R: ReadDevice> ReadAhead<R> {
         PIECE - (self.end - self.start)
     }
 
-    /// Returns whether the last read of the inner reader returned fewer bytes than it asked for, or failed.
+    /// Returns whether the last read of the inner reader returned fewer bytes than it asked for, but not none, or
+    /// failed.
     pub fn is_drained(&self) -> bool {
         self.is_drained
     }
@@ -259,7 +260,7 @@ impl<R: ReadDevice> ReadAhead<R> {
         self.is_drained = true;
         let n = read_after_held(&mut self.reader, &mut self.piece, self.end)?;
         self.end += n;
-        self.is_drained = self.end < PIECE;
+        self.is_drained = 0 < n && self.end < PIECE;
         Ok(n)
     }
 

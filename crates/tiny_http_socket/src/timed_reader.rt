@@ -17,7 +17,8 @@ use tiny_http_limits::times::{Patience, Stall, time_left};
 // The minimum read timeout of a socket, in milliseconds: 0 would mean no timeout.
 const LEAST_MILLIS: u64 = 1;
 
-// The read timeout of a socket while the reader reads ahead, in milliseconds.
+// The read timeout of a socket while the reader reads ahead, in milliseconds. The system rounds it up to its clock
+// tick.
 const AHEAD_MILLIS: u64 = 1;
 
 /// A reader over a client's socket, with timeouts if its connection has limits. A timeout for the first byte of a head
@@ -266,7 +267,9 @@ impl<R: ReadAheadDevice + Drop, Rt: Clock> ReadDevice for TimedReader<R, Rt> {
             return Ok(0);
         }
         let Some(limits) = self.shared.limits() else {
-            self.wait_for(None);
+            if self.inner.ahead().is_empty() {
+                self.wait_for(None);
+            }
             return self.inner.read_in(buf);
         };
         let limits = *limits;
@@ -301,7 +304,7 @@ impl<R: ReadAheadDevice + Drop, Rt: Clock> ReadAheadDevice for TimedReader<R, Rt
         self.inner.is_drained()
     }
 
-    /// Reads ahead once, for which it waits a millisecond at most. Records that a head has begun if a byte came.
+    /// Reads ahead once, for which it waits a clock tick or two at most. Records that a head has begun if a byte came.
     fn read_ahead(&mut self) -> Result<usize, io::Error> {
         self.wait_for(Some(Duration::from_millis(AHEAD_MILLIS)));
         let n = self.inner.read_ahead()?;

@@ -70,6 +70,12 @@ pub struct SequentialReader<I: Read + Drop, R: Wait + Drop> {
 }
 
 impl<I: Read + Drop, R: Wait + Drop> SequentialReader<I, R> {
+    /// Takes the turn of this reader if it has come, without a wait. Returns whether the reader has it.
+    #[doc(hidden)]
+    pub fn try_hold(&mut self) -> bool {
+        self.turn.try_hold()
+    }
+
     /// Waits for the turn of this reader, and returns a reader that holds it.
     #[doc(hidden)]
     pub fn into_held(self) -> HeldReader<I, R> {

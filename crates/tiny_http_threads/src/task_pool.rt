@@ -37,7 +37,7 @@ pub enum Offered<J> {
 }
 
 /// The state of a pool: the jobs that wait for a worker, how many workers run, how many of them are idle, and whether
-/// the pool is closed. At most as many jobs wait as workers are idle, and at most as many workers are idle as run.
+/// the pool is closed. There are never more waiting jobs than idle workers, nor more idle workers than running ones.
 /// Contracts see it as a `Pool`.
 #[derive(Drop)]
 pub struct PoolState<J> {
@@ -239,7 +239,7 @@ impl<J: Job + Drop> Sharing<J> {
     }
 }
 
-// Runs jobs, beginning with this one. If `is_refused` is set, since the thread for the worker couldn't be created,
+// Runs jobs, beginning with this one. If `is_refused` is set, which means that the worker's thread couldn't be created,
 // returns the job instead.
 fn work_unless<J: Job + Drop, R: Wait + Clock + Drop>(
     rt: R,

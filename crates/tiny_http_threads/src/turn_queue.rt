@@ -497,6 +497,22 @@ impl<T: Drop, R: Wait + Drop> Turn<T, R> {
         unreachable!()
     }
 
+    /// Holds the number if its turn has come, without a wait. Returns whether it is held.
+    pub fn try_hold(&mut self) -> bool {
+        if self.item.is_some() {
+            return true;
+        }
+        let Place { rt, queue, number } = &self.place;
+        let mut state = queue.state.lock(rt);
+        match state.take(self.alloc, *number) {
+            Taking::Held(item) => {
+                self.item = Some(item);
+                true
+            }
+            Taking::Waits(_) | Taking::Refused => false,
+        }
+    }
+
     /// Waits for the turn, unless the number is held already, and returns the item. If memory for the wait is refused,
     /// retries until it succeeds.
     pub fn hold(&mut self) -> &mut T {

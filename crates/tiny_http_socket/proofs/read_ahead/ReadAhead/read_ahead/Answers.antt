@@ -21,8 +21,8 @@ returns-clause-feed g c =
     ∙ ap (λ p. prepended (take (held + c.in_ok-n.n) p) (g.R.ReadDevice.feed c.read_after_held.new.reader)) more
     ∙ c.in_ok-n.ensures.feed
     ∙ ap (λ bytes. prepended bytes (g.R.ReadDevice.feed inside.reader))
-        (ap (λ p. take held p) before
-        ∙ c.move_to_front.ensures.bytes
-        ∙ ap (λ p. take held (drop inside.start p)) c.deref_mut.ensures.value
-        ∙ same)
+    (ap (λ p. take held p) before
+    ∙ c.move_to_front.ensures.bytes
+    ∙ ap (λ p. take held (drop inside.start p)) c.deref_mut.ensures.value
+    ∙ same)
     ∙ ap ahead_feed c.self.view_is

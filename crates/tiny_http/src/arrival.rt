@@ -1,0 +1,395 @@
+//! The clients of a server, and what is done for each: its requests are put into the server's queue, or handed to a
+//! handler one after another.
+use crate::accepting::{Message, Messages, drop_waiting};
+use crate::closing::{Draining, close_in_stages};
+use crate::crew::Progress;
+use crate::ending::Ending;
+use crate::registry::{ConnectionGuard, time_of};
+use crate::server::{ServerReader, ServerRequest, ServerWriter, current_date};
+use crate::serving::Handler;
+use std::alloc::Global;
+use std::mem;
+use std::os::fd::{AsRawFd, RawFd};
+use std::sync::atomic::{AtomicBool, Ordering};
+use std::sync::{Arc, Wait};
+use std::time::{Clock, Duration};
+use tiny_http_limits::counts::Closing;
+use tiny_http_request::client::{ClientConnection, Readiness};
+use tiny_http_socket::connection::Connection;
+use tiny_http_socket::cork::Cork;
+use tiny_http_socket::shared_state::SharedState;
+use tiny_http_socket::timed_writer::TimedWriter;
+
+/// An accepted client. When it is dropped, its connection is closed as soon as no request that is still held uses the
+/// connection.
+#[derive(Drop)]
+pub(crate) struct Client<R: Wait + Clock + Drop> {
+    pub rt: R,
+    pub ending: Arc<Ending>,
+    pub connection: ClientConnection<ServerReader<R>, ServerWriter<R>, R>,
+    /// Shared by the two halves of the connection.
+    pub cork: Arc<Cork<TimedWriter<R>>>,
+    /// Used to close the connection, and to learn when the client has sent something.
+    pub socket: Arc<Connection>,
+    /// The connection's limits and what it waits for, which its threads share.
+    pub shared: Arc<SharedState>,
+    /// Whether nothing that the client has sent was left in the socket when the last head was read.
+    pub was_drained: bool,
+    /// Counts the client as connected until it is dropped.
+    pub guard: ConnectionGuard<R>,
+}
+
+impl<R: Wait + Clock + Copy> Client<R> {
+    /// Puts the client's requests into the queue until there is no further one. Once the server serves with a handler,
+    /// returns the next request instead of queuing it. A request is dropped if the queue has no room for it. Once the
+    /// server has been closed, nothing takes requests from the queue, so a thread that adds one then empties the queue.
+    pub fn read_requests(
+        &mut self,
+        messages: &Messages<R>,
+        serving: &AtomicBool,
+    ) -> Option<ServerRequest<R>> {
+        let rt = self.rt;
+        for _ in rt.forever() {
+            let now = current_date(&rt);
+            let Ok(Some(request)) = self.connection.next(now) else {
+                return None;
+            };
+            if serving.load(Ordering::SeqCst) {
+                return Some(request);
+            }
+            let _ = messages.push(&rt, Message::NewRequest(request));
+            if self.ending.is_closed() {
+                drop_waiting(&rt, messages, &self.ending);
+                return None;
+            }
+        }
+        None
+    }
+
+    /// Waits until all the client's requests are answered, and closes the connection.
+    pub fn close(&mut self) {
+        if self.is_answered() {
+            close_in_stages(&self.rt, &self.socket, self.has_limits());
+        }
+    }
+
+    // Sends what is held, and waits until all the client's requests are answered. Returns false if memory is refused.
+    fn is_answered(&mut self) -> bool {
+        self.cork.send();
+        self.connection.wait_for_answers().is_ok()
+    }
+
+    // Returns whether the connection has limits.
+    fn has_limits(&self) -> bool {
+        self.shared.limits().is_some()
+    }
+
+    // Hands the next request to a handler. Returns false if there is none, or if the server has been closed: the
+    // request is dropped then, and no further one is handed out.
+    fn answer_next<H: Handler<R, ServerRequest<R>>>(&mut self, alloc: Global, handler: &H) -> bool {
+        let rt = self.rt;
+        let now = current_date(&rt);
+        self.was_drained = self.connection.is_drained();
+        let Ok(Some(request)) = self.connection.next(now) else {
+            return false;
+        };
+        if self.ending.is_closed() {
+            return false;
+        }
+        self.cork.send_unless_leaving();
+        let _ = handler.handle(&rt, alloc, request);
+        true
+    }
+
+    // Hands requests to a handler as long as the whole next head has come. Returns what has come of the next one, or
+    // `None` if there is no further request.
+    fn answer_ready<H: Handler<R, ServerRequest<R>>>(
+        &mut self,
+        alloc: Global,
+        handler: &H,
+    ) -> Option<Readiness> {
+        let rt = self.rt;
+        for _ in rt.forever() {
+            if !self.answer_next(alloc, handler) {
+                return None;
+            }
+            let readiness = self.readiness();
+            if readiness != Readiness::Ready {
+                return Some(readiness);
+            }
+        }
+        None
+    }
+
+    // Returns what has come of the next head. Reads ahead if more may have come.
+    fn readiness(&mut self) -> Readiness {
+        let readiness = self.connection.readiness();
+        if readiness == Readiness::Ready || self.connection.is_drained() {
+            return readiness;
+        }
+        self.connection.read_ahead()
+    }
+
+    // Frees the buffers of the connection, which its next read and write take again.
+    fn free_buffers(&mut self) {
+        self.cork.release();
+        self.connection.release_ahead();
+    }
+}
+
+// How long a connection that waits keeps its buffers, in milliseconds.
+const BUFFERS_MILLIS: u64 = 1_000;
+
+// A wait for the first byte of a head.
+#[derive(Clone, Copy)]
+struct Idle {
+    // When the wait is over.
+    ends: Duration,
+    // Whether a request was open when the wait began.
+    had_open: bool,
+    has_buffers: bool,
+}
+
+impl Idle {
+    // Returns a wait without an end.
+    fn new() -> Idle {
+        Idle {
+            ends: Duration::MAX,
+            had_open: false,
+            has_buffers: true,
+        }
+    }
+}
+
+// How far a client is served.
+#[derive(Drop)]
+enum Stage<R: Wait + Clock + Drop> {
+    // This request is to be handed to the handler first.
+    First(ServerRequest<R>),
+    // The next head hasn't begun.
+    Idle(Idle),
+    // The next head has begun, at this time.
+    Head(Duration),
+    // The connection is being closed.
+    Draining(Draining),
+}
+
+/// A client that is to be served.
+#[derive(Drop)]
+pub(crate) struct Arrival<R: Wait + Clock + Drop> {
+    client: Client<R>,
+    stage: Stage<R>,
+}
+
+impl<R: Wait + Clock + Copy> Arrival<R> {
+    /// Returns the arrival of a client, and of its next request, if that was read already.
+    pub fn new(client: Client<R>, next: Option<ServerRequest<R>>) -> Arrival<R> {
+        let stage = match next {
+            Some(request) => Stage::First(request),
+            None => Stage::Idle(Idle::new()),
+        };
+        Arrival { client, stage }
+    }
+
+    /// Puts the client into the queue. Once the server has been closed, nothing takes a client from the queue, so this
+    /// call then empties it.
+    pub fn put(self, rt: &R, messages: &Messages<R>, ending: &Ending) {
+        let _ = messages.push(rt, Message::NewClient(self));
+        if ending.is_closed() {
+            drop_waiting(rt, messages, ending);
+        }
+    }
+
+    /// Returns the client's socket.
+    pub fn socket(&self) -> RawFd {
+        self.client.socket.as_raw_fd()
+    }
+
+    /// Prepares the client to be served. Returns the time until which it may send nothing, or `None` if it is to be
+    /// served at once.
+    pub fn begin(&mut self) -> Option<Duration> {
+        let flush_policy = Arc::try_clone(self.client.cork.flush_policy()).ok()?;
+        self.client.connection.set_flush_policy(flush_policy);
+        if let Stage::First(_) = &self.stage {
+            return None;
+        }
+        match self.wait(Readiness::Idle) {
+            Progress::Waits(until) => Some(until),
+            Progress::Over => None,
+        }
+    }
+
+    /// Hands the client's requests to a handler as long as they come, and then waits for the next one. After the last
+    /// waits until all are answered, and closes the connection. `is_late` tells that the wait is over without an event.
+    /// Once the server has been closed, the next request is dropped and is the last.
+    pub fn answer_by<H: Handler<R, ServerRequest<R>>>(
+        &mut self,
+        alloc: Global,
+        handler: &H,
+        is_late: bool,
+    ) -> Progress {
+        match mem::replace(&mut self.stage, Stage::Idle(Idle::new())) {
+            Stage::First(request) => self.answer_first(alloc, handler, request),
+            Stage::Draining(draining) => self.drain(draining, is_late),
+            Stage::Idle(idle) if is_late => self.end_idle(idle),
+            Stage::Head(_) if is_late => {
+                self.client.shared.expire_head();
+                let readiness = self.client.answer_ready(alloc, handler);
+                self.go_on(readiness)
+            }
+            Stage::Head(begun) => {
+                self.stage = Stage::Head(begun);
+                self.answer_more(alloc, handler)
+            }
+            Stage::Idle(_) => self.answer_more(alloc, handler),
+        }
+    }
+
+    // Hands the first request to a handler, unless the server has been closed.
+    fn answer_first<H: Handler<R, ServerRequest<R>>>(
+        &mut self,
+        alloc: Global,
+        handler: &H,
+        request: ServerRequest<R>,
+    ) -> Progress {
+        if self.client.ending.is_closed() {
+            // `close` would wait for a request that is held.
+            drop(request);
+            return self.close();
+        }
+        if !request.is_lost() {
+            let _ = handler.handle(&self.client.rt, alloc, request);
+        }
+        let readiness = self.client.readiness();
+        self.answer_from(alloc, handler, readiness)
+    }
+
+    // Reads what the client has sent, and hands the requests whose heads are whole to a handler.
+    fn answer_more<H: Handler<R, ServerRequest<R>>>(
+        &mut self,
+        alloc: Global,
+        handler: &H,
+    ) -> Progress {
+        let readiness = self.client.connection.read_ahead();
+        self.answer_from(alloc, handler, readiness)
+    }
+
+    // Hands requests to a handler if the next head is ready.
+    fn answer_from<H: Handler<R, ServerRequest<R>>>(
+        &mut self,
+        alloc: Global,
+        handler: &H,
+        readiness: Readiness,
+    ) -> Progress {
+        if readiness != Readiness::Ready {
+            return self.wait(readiness);
+        }
+        let readiness = self.client.answer_ready(alloc, handler);
+        self.stage = Stage::Idle(Idle::new());
+        self.go_on(readiness)
+    }
+
+    // Waits for the next head, of which this has come, or closes the connection if there is no further request.
+    fn go_on(&mut self, readiness: Option<Readiness>) -> Progress {
+        match readiness {
+            Some(readiness) => self.wait(readiness),
+            None => self.close(),
+        }
+    }
+
+    // Waits for the rest of the next head, of which this has come.
+    fn wait(&mut self, readiness: Readiness) -> Progress {
+        self.client.cork.send();
+        let has_begun = readiness == Readiness::Part;
+        if !self.client.shared.begin_head(has_begun) {
+            return self.close();
+        }
+        let now = time_of(&self.client.rt);
+        if has_begun {
+            self.wait_for_rest(now)
+        } else {
+            self.wait_for_first(now)
+        }
+    }
+
+    // Waits for the rest of a head that has begun.
+    fn wait_for_rest(&mut self, now: Duration) -> Progress {
+        let begun = match &self.stage {
+            Stage::Head(begun) => *begun,
+            _ => now,
+        };
+        self.stage = Stage::Head(begun);
+        match self.client.shared.limits() {
+            Some(limits) => Progress::Waits(begun.saturating_add(limits.head_time)),
+            None => Progress::Waits(Duration::MAX),
+        }
+    }
+
+    // Waits for the first byte of a head: first for a short time with buffers, then without them.
+    fn wait_for_first(&mut self, now: Duration) -> Progress {
+        let ends = match self.client.shared.limits() {
+            Some(limits) => now.saturating_add(limits.idle_time),
+            None => Duration::MAX,
+        };
+        self.stage = Stage::Idle(Idle {
+            ends,
+            had_open: self.client.shared.has_open(),
+            has_buffers: true,
+        });
+        let short = Duration::from_millis(BUFFERS_MILLIS);
+        Progress::Waits(ends.min(now.saturating_add(short)))
+    }
+
+    // Goes on with a wait for the first byte of a head: without buffers, or, if its time is over, closes the
+    // connection. If a request was open when the time began, the time starts over instead.
+    fn end_idle(&mut self, idle: Idle) -> Progress {
+        if idle.has_buffers {
+            self.client.free_buffers();
+        }
+        if time_of(&self.client.rt) < idle.ends {
+            self.stage = Stage::Idle(Idle {
+                has_buffers: false,
+                ..idle
+            });
+            return Progress::Waits(idle.ends);
+        }
+        if idle.had_open {
+            return self.wait(Readiness::Idle);
+        }
+        self.client.shared.closed_by(Closing::Idle);
+        self.close()
+    }
+
+    // Waits until all requests are answered, and begins to close the connection. Discards nothing yet if nothing has
+    // come.
+    fn close(&mut self) -> Progress {
+        if !self.client.is_answered() {
+            return Progress::Over;
+        }
+        let (rt, has_limits) = (self.client.rt, self.client.has_limits());
+        let Some(draining) = Draining::begin(&rt, &self.client.socket) else {
+            return Progress::Over;
+        };
+        if !self.client.was_drained {
+            return self.drain(draining, false);
+        }
+        let until = draining.silent_until(&rt, has_limits);
+        self.stage = Stage::Draining(draining);
+        until.map_or(Progress::Over, Progress::Waits)
+    }
+
+    // Discards what the client has sent while the connection is closed.
+    fn drain(&mut self, mut draining: Draining, is_late: bool) -> Progress {
+        if is_late {
+            return Progress::Over;
+        }
+        let (rt, has_limits) = (self.client.rt, self.client.has_limits());
+        match draining.discard(&rt, &self.client.socket, has_limits) {
+            Some(until) => {
+                self.stage = Stage::Draining(draining);
+                Progress::Waits(until)
+            }
+            None => Progress::Over,
+        }
+    }
+}
