@@ -18,8 +18,8 @@ abbrev pub feed_unless : Bool → Option Feed → Option Feed
 feed_unless true feed = option_map (λ f. whole_feed []) feed
 feed_unless false feed = feed
 
--- the bytes still to come from a `FusedReader`, and how the input stops after them: the inner reader's, or none, with
--- an end, if its end has been reported
+-- the feed of a `FusedReader`: the inner reader's, or, once the inner reader's end has been reported, an empty feed
+-- that stops with an end
 abbrev pub fused_feed : {R : Type 0} → (R → Option Feed) → FusedReader R → Option Feed
 fused_feed feed r = feed_unless r.over (feed r.inner)
 

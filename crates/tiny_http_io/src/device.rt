@@ -1,6 +1,6 @@
 //! The device traits: readers that may state the bytes still to come, and writers that count their failures.
-ghost use Rattle.std.specs.Prelude.{◌≡◌, ◌<◌, ◌≤◌, ◌+◌, ℕ, min, false, [], length, take, drop, Option, None, Some, Ok, IfOk};
-ghost use Rattle.std.specs.Prelude.{IfErr, OnOk, OnErr, vec_len, flat_map};
+ghost use Rattle.std.specs.Prelude.{◌≡◌, ◌<◌, ◌≤◌, ◌+◌, ℕ, min, false, [], length, take, drop, Option, None, Some, Ok};
+ghost use Rattle.std.specs.Prelude.{IfOk, IfErr, OnOk, OnErr, vec_len, flat_map};
 ghost use Rattle.std.specs.IoError.{error_kind};
 ghost use Rattle.tiny_http_io.specs.Cursor.{cursor_bytes};
 ghost use Rattle.tiny_http_io.specs.Device.{Feed, whole_feed, prepended, StopsBy, stop_of, next_count, Sink};
@@ -46,7 +46,8 @@ pub trait ReadAheadDevice: ReadDevice {
     /// Returns how many more bytes the reader can store now.
     fn ahead_room(&self) -> usize;
 
-    /// Returns whether the last read found fewer bytes than it asked for, so that no more had come.
+    /// Returns whether the last read found that no more had come: it returned fewer bytes than it asked for, but not
+    /// none, or it failed.
     fn is_drained(&self) -> bool;
 
     /// Reads ahead once, waiting as briefly as it can, and returns how many bytes came: 0 at the end, or if there is no

@@ -275,7 +275,8 @@ impl<W: WriteDevice> WriteDevice for Outlet<W> {
 }
 
 // Method calls find the inherent `write` and `flush` before these. `contents` is left unstated, since an outlet drops
-// the bytes written after its end, and a fault may lose buffered ones. The clauses say what the outlet itself states.
+// the bytes written after its end, and a fault may lose buffered ones. The clauses describe the outlet's own sink
+// (`output_of`) and state instead.
 impl<W: WriteDevice> Write for Outlet<W> {
     ghost use Rattle.std.specs.Io.{WritesAtMost};
     ghost use Rattle.tiny_http_io.specs.Outlet.{output_of, outlet_held, outlet_ended, SentOn};

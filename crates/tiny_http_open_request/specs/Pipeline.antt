@@ -48,8 +48,8 @@ pub data Refusal : Type 0 where
   RequestTimeout : Refusal
   -- the head's expectation can't be met
   ExpectationFailed : Refusal
-  -- the head is larger than `Strict` allows; or, under `Standard`, it exceeds the maximum size after its request line,
-  -- or has too many field lines
+  -- the head is larger than `Strict` allows; or, under `Standard`, its request line ends within the maximum size of a
+  -- head but the head doesn't, or it has too many field lines
   HeaderFieldsTooLarge : Refusal
   -- the head's version is above 1.1, under `Lenient` or `Strict`
   VersionNotSupported : Refusal
@@ -89,8 +89,8 @@ framing_refusal Invalid = BadRequest
 framing_refusal Expectation = ExpectationFailed
 
 -- The item that one head contributes to a pipeline. `Asks`: the request is handed out. `Refuses`: the head is refused
--- in this manner; `no_body` marks a `HEAD`, which matters only for `VersionNotSupported`, and `last` means that no head
--- is read after the refused one.
+-- in this manner; `no_body` is true only for a `HEAD` that is refused with `VersionNotSupported`, the one refusal whose
+-- response has a body, and `last` means that no head is read after the refused one.
 pub data Item : Type 0 where
   Asks : (request : Request) → Item
   Refuses : (refusal : Refusal) (manner : Manner) (no_body last : Bool) → Item
@@ -199,7 +199,7 @@ pub record IsRequestHead (p : HeadRules) (bytes : List ℕ) (m : Message) (f : F
   pub whole : IsWholeHead p bytes m after (Ok f)
   pub uncut : IsCutWithHead f.form (body_length_or_0 f) after → ⊥
 
--- UNDER `STANDARD`: the bytes in which a head is read, at most as many as a head may have.
+-- UNDER `STANDARD`: the bytes within which a head must end: the first `STANDARD_HEAD`, or all if there are fewer.
 abbrev pub standard_front : List ℕ → List ℕ
 standard_front bytes = take STANDARD_HEAD bytes
 
@@ -234,8 +234,7 @@ standard_refusal validated.InvalidHead = BadRequest
 standard_refusal validated.UnknownCoding = CodingNotImplemented
 standard_refusal validated.UnknownExpectation = ExpectationFailed
 
--- the refusal of a head that has the maximum size and hasn't ended: within its request line, or after it if the flag is
--- true
+-- the refusal of a head that hasn't ended within the maximum size; the flag says whether its request line has ended
 abbrev pub long_refusal : Bool → Refusal
 long_refusal false = RequestLineTooLong
 long_refusal true = HeaderFieldsTooLarge
@@ -283,7 +282,7 @@ standard_heading (ReadWhole m after (Ok s)) bytes stop =
 abbrev pub StandardHeadAt : List ℕ → Stop → Heading → Type 0
 StandardHeadAt bytes stop h = (r : Reading) × AreReadAs (standard_front bytes) r × (h ≡ standard_heading r bytes stop)
 
--- THE HEADING at the position of a head: whether these bytes have it under this profile
+-- THE HEADING at the position of a head: whether this is the heading of the bytes under this profile
 abbrev pub HeadAt : Profile → List ℕ → Stop → Heading → Type 0
 HeadAt Lenient bytes stop h = RulesHeadAt rules.Lenient bytes stop h
 HeadAt Strict bytes stop h = RulesHeadAt rules.Strict bytes stop h
@@ -299,7 +298,8 @@ abbrev pub SizedBody : ℕ → List ℕ → Feed → Place → Type 0
 SizedBody n after body next =
     (rest : List ℕ) × (after ≡ body.bytes ++ rest) × (length body.bytes ≡ n) × (body.stop ≡ End) × (next ≡ Some rest)
 
--- Whether this is the body after a head with this framing, with its stop, and `next` is where the next head begins.
+-- Whether `body`, including how it stops, is the body after a head with this framing, and `next` is where the next head
+-- begins.
 abbrev pub BodyAt : Bool → Form → ℕ → List ℕ → Stop → Feed → Place → Type 0
 BodyAt standard Nothing n after stop body next = (body ≡ record { bytes = []; stop = End }) × (next ≡ Some after)
 BodyAt standard WithHead n after stop body next = SizedBody n after body next
