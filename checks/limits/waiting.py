@@ -4,9 +4,9 @@
     checks/limits/waiting.py crates/bench_server/out/bench_server [SLOW IDLE CLOSING]
 
 It starts `bench_server --bodies serve`, which has no limits. By default 5,000 clients send a head byte by byte, 5,000 send nothing, and
-1,000 get a 400 and don't close their connection. Meanwhile a good client has to be answered within 100 ms each time, and the server
-may have at most 16 threads and 12 KiB a connection. In the end all slow and idle clients are answered. It takes a minute, and ends with status 1 where
-something is wrong."""
+1,000 get a 400 and don't close their connection. While they wait the server may have at most 16 threads and 24 KiB a connection, and
+while they send a good client has to be answered within 100 ms each time. In the end all slow and idle clients are answered. It takes
+a minute, and ends with status 1 where something is wrong."""
 import os, resource, socket, subprocess, sys, tempfile, threading, time
 
 PORT = 18082
@@ -79,6 +79,10 @@ def main():
             for sock in slow:
                 sock.sendall(HEAD[:1])
             time.sleep(3)
+            threads, memory = status(server.pid, "Threads"), status(server.pid, "VmRSS") - before
+            report("few threads while all wait", threads <= 16, threads)
+            memory /= idle_count + slow_count
+            report("KiB a connection", memory <= 24, f"{memory:.1f}")
             good = Good()
             good.start()
             closing = []
@@ -93,10 +97,6 @@ def main():
             good.join()
             report("a good client is answered", good.bad == 0, f"{good.count} times")
             report("within 100 ms", good.longest < 0.1, f"{good.longest * 1000:.1f} ms at most")
-            threads = status(server.pid, "Threads")
-            report("few threads", threads <= 16, threads)
-            memory = (status(server.pid, "VmRSS") - before) / (idle_count + slow_count)
-            report("KiB a connection", memory <= 12 or slow_count, f"{memory:.1f}")
             refused = sum(answer(sock).startswith(b"HTTP/1.1 400") for sock in closing)
             report("those that are closed got their 400", refused == closing_count, refused)
             for sock in slow:
