@@ -75,6 +75,9 @@ const SHORT: usize = 256;
 
 const SMALL: usize = 1024;
 
+// The buffer size for data that fill it. Each piece then takes one read, and on a socket one write.
+const LARGE: usize = 65_536;
+
 /// Writes the first `n` bytes of the data, as they arrive. Fails with `UnexpectedEof` if the data end after fewer than
 /// `n` bytes, or with the first fault of the data or the writer. After a failure nothing more is written.
 pub fn put_exactly<D: ReadDevice, W: WriteDevice>(
@@ -96,5 +99,8 @@ pub fn put_exactly<D: ReadDevice, W: WriteDevice>(
     if n <= SMALL {
         return put_through(source, writer, &mut [0u8; SMALL], n);
     }
-    put_through(source, writer, &mut [0u8; PIECE], n)
+    if n < LARGE {
+        return put_through(source, writer, &mut [0u8; PIECE], n);
+    }
+    put_through(source, writer, &mut [0u8; LARGE], n)
 }

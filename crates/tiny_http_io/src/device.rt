@@ -38,17 +38,23 @@ pub trait ReadDevice {
         ensures stop_count { Tells (stop_count self.old) (stop_count self.new) result };
 }
 
+/// What a reader has read ahead.
+#[derive(Clone, Copy, Debug, Drop)]
+pub struct Ahead<'a> {
+    /// The bytes that no read has returned yet.
+    pub bytes: &'a [u8],
+    /// How many more bytes the reader can store now.
+    pub room: usize,
+    /// Whether the last read found that no more had come: it returned fewer bytes than it asked for, but not none, or
+    /// it failed.
+    pub is_drained: bool,
+}
+
 /// A reader that can read ahead: it stores bytes before they are asked for. Reads return these bytes first.
 pub trait ReadAheadDevice: ReadDevice {
-    /// Returns the bytes that were read ahead and that no read has returned yet.
-    fn ahead(&self) -> &[u8];
-
-    /// Returns how many more bytes the reader can store now.
-    fn ahead_room(&self) -> usize;
-
-    /// Returns whether the last read found that no more had come: it returned fewer bytes than it asked for, but not
-    /// none, or it failed.
-    fn is_drained(&self) -> bool;
+    /// Returns what was read ahead. Its bytes are the first of the feed.
+    fn ahead(&self) -> Ahead<'_>
+        ensures front { (rest : Option Feed) × (Self.feed self.now ≡ prepended result.bytes.now rest) };
 
     /// Reads ahead once, waiting as briefly as it can, and returns how many bytes came: 0 at the end, or if there is no
     /// room. Fails with `WouldBlock` if none has come. The feed is unchanged, also if it fails.

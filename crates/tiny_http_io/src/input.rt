@@ -11,7 +11,7 @@ ghost use Rattle.tiny_http_io.specs.Source.{IsWithin, seen_within};
 ghost use Rattle.tiny_http_io.specs.ToCome.{skipped, stopped, HasByte, HasNoByte};
 
 use crate::buffer::{Buffer, CAPACITY};
-use crate::device::{ReadAheadDevice, ReadDevice, Stop};
+use crate::device::{Ahead, ReadAheadDevice, ReadDevice, Stop};
 use crate::lines::{go_on, is_reached, is_within, line_end, one_less};
 use crate::source::{FirstLine, LineFault};
 use std::alloc::{AllocError, Global};
@@ -521,21 +521,14 @@ impl<R: ReadDevice> Input<R> {
 }
 
 impl<R: ReadAheadDevice> Input<R> {
+    ghost use Rattle.tiny_http_io.specs.Device.{Feed};
     ghost use Rattle.tiny_http_io.specs.Input.{input_feed, input_reader};
 
-    /// Returns the bytes that the reader has read ahead.
-    pub fn ahead(&self) -> &[u8] {
+    /// Returns what the reader has read ahead.
+    pub fn ahead(&self) -> Ahead<'_>
+        ensures { (rest : Option Feed) × (R.feed (input_reader self.now) ≡ prepended result.bytes.now rest) }
+    {
         self.inner.ahead()
-    }
-
-    /// Returns how many more bytes the reader can read ahead.
-    pub fn ahead_room(&self) -> usize {
-        self.inner.ahead_room()
-    }
-
-    /// Returns whether the reader's last read found fewer bytes than it asked for.
-    pub fn is_drained(&self) -> bool {
-        self.inner.is_drained()
     }
 
     /// Has the reader read ahead once.

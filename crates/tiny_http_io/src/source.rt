@@ -5,7 +5,7 @@ ghost use Rattle.tiny_http_io.specs.Device.{StopsBy, Tells};
 ghost use Rattle.tiny_http_io.specs.LineEnds.{EndsLine};
 ghost use Rattle.tiny_http_io.specs.ToCome.{skipped, stopped};
 
-use crate::device::{ReadAheadDevice, ReadDevice, Stop};
+use crate::device::{Ahead, ReadAheadDevice, ReadDevice, Stop};
 use crate::input::Input;
 use std::alloc::{AllocError, Global};
 use std::io;
@@ -284,21 +284,14 @@ impl<R: ReadDevice> Source<R> {
 }
 
 impl<R: ReadAheadDevice> Source<R> {
+    ghost use Rattle.tiny_http_io.specs.Device.{Feed, prepended};
     ghost use Rattle.tiny_http_io.specs.Source.{IsUnread};
 
-    /// Returns the bytes that the reader has read ahead. They follow the buffered ones.
-    pub fn ahead(&self) -> &[u8] {
+    /// Returns what the reader has read ahead. Its bytes follow the buffered ones.
+    pub fn ahead(&self) -> Ahead<'_>
+        ensures { (rest : Option Feed) × (R.feed self.now.reader ≡ prepended result.bytes.now rest) }
+    {
         self.input.ahead()
-    }
-
-    /// Returns how many more bytes the reader can read ahead.
-    pub fn ahead_room(&self) -> usize {
-        self.input.ahead_room()
-    }
-
-    /// Returns whether the reader's last read found fewer bytes than it asked for, so that no more had come.
-    pub fn is_drained(&self) -> bool {
-        self.input.is_drained()
     }
 
     /// Has the reader read ahead once, as `ReadAheadDevice::read_ahead` does. What the source gives is unchanged.

@@ -376,8 +376,8 @@ impl<R: ReadDevice + Drop, W: WriteDevice + Drop, Rt: Wait + Copy> ClientConnect
 #[derive(Clone, Copy, Debug, PartialEq, Eq)]
 pub enum Readiness {
     /// The whole head, or `next` returns without one. It may still wait: for a request that is kept or that reads the
-    /// input, for a body that a `GET` announces, for the rest of a head of more than 16,384 bytes, and for the next
-    /// head after one that is refused with 505.
+    /// input, for the rest of a head of more than 16,384 bytes, and for the next head after one that is refused with
+    /// 505.
     Ready,
     /// A part of the head.
     Part,
@@ -400,28 +400,19 @@ impl<R: ReadAheadDevice + Drop, W: WriteDevice + Drop, Rt: Wait + Copy> ClientCo
         let Some((alloc, profile, source)) = self.next_source() else {
             return Readiness::Ready;
         };
-        for _ in 0..AHEAD_READS {
-            let room = source.ahead_room();
-            match source.read_ahead() {
-                Ok(0) => return Readiness::Ready,
-                Ok(n) if n == room => {
-                    if readiness_of(alloc, source, profile) == Readiness::Ready {
-                        return Readiness::Ready;
-                    }
-                }
-                Err(fault) if fault.kind() != ErrorKind::WouldBlock => return Readiness::Ready,
-                Ok(n) if ends_no_line(source, n) => return Readiness::Part,
-                _ => return readiness_of(alloc, source, profile),
-            }
+        match source.read_ahead() {
+            Ok(n) if n == 0 || source.ahead().room == 0 => Readiness::Ready,
+            Ok(n) if ends_no_line(source, n) => Readiness::Part,
+            Err(fault) if fault.kind() != ErrorKind::WouldBlock => Readiness::Ready,
+            _ => readiness_of(alloc, source, profile),
         }
-        Readiness::Ready
     }
 
     /// Returns whether the last read from the client found that no more had come, and that the input goes on. If a
     /// request has the input, that isn't known, and the result is false.
     pub fn is_drained(&mut self) -> bool {
         match self.next_source() {
-            Some((_, _, source)) => source.is_drained(),
+            Some((_, _, source)) => source.ahead().is_drained,
             None => false,
         }
     }
@@ -462,14 +453,35 @@ impl<R: ReadAheadDevice + Drop, W: WriteDevice + Drop, Rt: Wait + Copy> ClientCo
     }
 }
 
-// Maximum number of reads in one call that reads ahead.
-const AHEAD_READS: u32 = 4;
-
-// What follows the last byte of a head that has no body.
+// The end of a head.
 const HEAD_END: &[u8] = b"\r\n\r\n";
 
-// The first bytes of a head that is taken to have no body.
+// The first bytes of a head that mostly has no body.
 const PLAIN_START: &[u8] = b"GET ";
+
+// The headers of a head that has one.
+const BODY_HEADERS: [&[u8]; 2] = [b"Content-Length", b"Transfer-Encoding"];
+
+// Returns whether these bytes begin with a whole `GET` head that names no body, so that it needn't be read to know.
+fn begins_plainly(bytes: &[u8]) -> bool {
+    if !bytes.starts_with(PLAIN_START) {
+        return false;
+    }
+    let Some(end) = memmem::find(bytes, HEAD_END) else {
+        return false;
+    };
+    !bytes[..end]
+        .split(|byte| *byte == b'\n')
+        .any(|line| names_body(line))
+}
+
+// Returns whether a line of a head begins with the name of a header that says how long the body is.
+fn names_body(line: &[u8]) -> bool {
+    BODY_HEADERS.iter().any(|name| {
+        line.get(..name.len())
+            .is_some_and(|start| start.eq_ignore_ascii_case(name))
+    })
+}
 
 // Returns what the source holds, or its reader has read ahead, of the next head.
 fn readiness_of<R: ReadAheadDevice>(
@@ -477,15 +489,12 @@ fn readiness_of<R: ReadAheadDevice>(
     source: &Source<R>,
     profile: Profile,
 ) -> Readiness {
-    let (held, ahead) = (source.held(), source.ahead());
+    let (held, ahead) = (source.held(), source.ahead().bytes);
     if held.is_empty() && ahead.is_empty() {
         return Readiness::Idle;
     }
     let first = if held.is_empty() { ahead } else { held };
-    if source.to_skip() == 0
-        && first.starts_with(PLAIN_START)
-        && memmem::find(first, HEAD_END).is_some()
-    {
+    if source.to_skip() == 0 && begins_plainly(first) {
         return Readiness::Ready;
     }
     if source.to_skip() >= held.len().saturating_add(ahead.len()) {
@@ -500,7 +509,7 @@ fn readiness_of<R: ReadAheadDevice>(
 // Returns whether the last `n` bytes that were read ahead end no line of a head that hasn't ended before them. So
 // whether the head is whole needn't be asked again.
 fn ends_no_line<R: ReadAheadDevice>(source: &Source<R>, n: usize) -> bool {
-    let ahead = source.ahead();
+    let ahead = source.ahead().bytes;
     let Some(new) = ahead.get(ahead.len().saturating_sub(n)..) else {
         return false;
     };
@@ -519,7 +528,7 @@ fn is_whole<R: ReadAheadDevice>(
     profile: Profile,
 ) -> Result<bool, AllocError> {
     let mut bytes = source.held().to_vec(alloc)?;
-    bytes.extend_from_slice(source.ahead())?;
+    bytes.extend_from_slice(source.ahead().bytes)?;
     let mut copy = Source::new(Canned::new(bytes, Some(ErrorKind::WouldBlock)));
     copy.skip(source.to_skip());
     let Ok(any_date) = HttpDate::from_unix_secs(0) else {

@@ -11,7 +11,7 @@ use std::io;
 use std::io::ErrorKind;
 use std::sync::atomic::{AtomicBool, Ordering};
 use std::sync::{Arc, Mutex, Wait};
-use tiny_http_io::device::{ReadAheadDevice, ReadDevice, WriteDevice};
+use tiny_http_io::device::{Ahead, ReadAheadDevice, ReadDevice, WriteDevice};
 
 /// The flush policy of a connection: whether a flush of its writer may leave bytes buffered. A caller that allows this
 /// must send those bytes soon, with `Cork::send`.
@@ -274,19 +274,9 @@ impl<R: ReadDevice + Drop, W: WriteBoth + Drop> ReadDevice for FlushingReader<R,
 }
 
 impl<R: ReadDevice + Drop, W: WriteBoth + Drop> ReadAheadDevice for FlushingReader<R, W> {
-    /// Returns the bytes that were read ahead.
-    fn ahead(&self) -> &[u8] {
-        self.ahead.held()
-    }
-
-    /// Returns how many more bytes can be read ahead.
-    fn ahead_room(&self) -> usize {
-        self.ahead.room()
-    }
-
-    /// Returns whether the last read of the socket returned fewer bytes than it asked for, or failed.
-    fn is_drained(&self) -> bool {
-        self.ahead.is_drained()
+    /// Returns what was read ahead.
+    fn ahead(&self) -> Ahead<'_> {
+        self.ahead.ahead()
     }
 
     /// Sends the buffered bytes, then reads ahead from the socket, as `ReadAhead::read_ahead` does.

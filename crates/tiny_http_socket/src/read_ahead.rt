@@ -10,7 +10,7 @@ use std::alloc::{AllocError, Global};
 use std::io;
 use std::io::ErrorKind;
 use std::marker::Model;
-use tiny_http_io::device::{ReadDevice, copy_front};
+use tiny_http_io::device::{Ahead, ReadDevice, copy_front};
 
 /// The maximum number of bytes that are read ahead at once.
 pub const PIECE: usize = 16_384;
@@ -222,24 +222,16 @@ impl<R: ReadDevice> ReadAhead<R> {
         read
     }
 
-    /// Returns the bytes that were read ahead.
-    pub fn held(&self) -> &[u8]
-        ensures { result.now ≡ self.now.held }
+    /// Returns what was read ahead. No contract says whether the inner reader is drained.
+    pub fn ahead(&self) -> Ahead<'_>
+        ensures bytes { result.bytes.now ≡ self.now.held }
+        ensures room { result.room + length self.now.held ≡ PIECE }
     {
-        &self.piece[self.start..self.end]
-    }
-
-    /// Returns how many more bytes can be read ahead.
-    pub fn room(&self) -> usize
-        ensures { result + length self.now.held ≡ PIECE }
-    {
-        PIECE - (self.end - self.start)
-    }
-
-    /// Returns whether the last read of the inner reader returned fewer bytes than it asked for, but not none, or
-    /// failed.
-    pub fn is_drained(&self) -> bool {
-        self.is_drained
+        Ahead {
+            bytes: &self.piece[self.start..self.end],
+            room: PIECE - (self.end - self.start),
+            is_drained: self.is_drained,
+        }
     }
 
     /// Reads once from the inner reader, as many bytes as there is room for after the held ones, and returns how many

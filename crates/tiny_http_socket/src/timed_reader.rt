@@ -9,7 +9,7 @@ use std::io::ErrorKind;
 use std::net::Shutdown;
 use std::sync::Arc;
 use std::time::{Clock, Duration};
-use tiny_http_io::device::{ReadAheadDevice, ReadDevice};
+use tiny_http_io::device::{Ahead, ReadAheadDevice, ReadDevice};
 use tiny_http_limits::counts::Closing;
 use tiny_http_limits::limits::Limits;
 use tiny_http_limits::times::{Patience, Stall, time_left};
@@ -267,13 +267,13 @@ impl<R: ReadAheadDevice + Drop, Rt: Clock> ReadDevice for TimedReader<R, Rt> {
             return Ok(0);
         }
         let Some(limits) = self.shared.limits() else {
-            if self.inner.ahead().is_empty() {
+            if self.inner.ahead().bytes.is_empty() {
                 self.wait_for(None);
             }
             return self.inner.read_in(buf);
         };
         let limits = *limits;
-        if !self.inner.ahead().is_empty() {
+        if !self.inner.ahead().bytes.is_empty() {
             return self.read_held(limits, buf);
         }
         let request = self.shared.requests();
@@ -289,19 +289,10 @@ impl<R: ReadAheadDevice + Drop, Rt: Clock> ReadDevice for TimedReader<R, Rt> {
 }
 
 impl<R: ReadAheadDevice + Drop, Rt: Clock> ReadAheadDevice for TimedReader<R, Rt> {
-    /// Returns the bytes that were read ahead.
-    fn ahead(&self) -> &[u8] {
+    /// Returns what was read ahead. It is drained if the last read of the socket returned fewer bytes than it asked
+    /// for, or failed.
+    fn ahead(&self) -> Ahead<'_> {
         self.inner.ahead()
-    }
-
-    /// Returns how many more bytes can be read ahead.
-    fn ahead_room(&self) -> usize {
-        self.inner.ahead_room()
-    }
-
-    /// Returns whether the last read of the socket returned fewer bytes than it asked for, or failed.
-    fn is_drained(&self) -> bool {
-        self.inner.is_drained()
     }
 
     /// Reads ahead once, for which it waits a clock tick or two at most. Records that a head has begun if a byte came.
