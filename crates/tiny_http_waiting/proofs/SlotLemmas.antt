@@ -55,6 +55,11 @@ get-push_before [] j y z e = absurd cc
 get-push_before (x ∷ xs) zero y z e = e
 get-push_before (x ∷ xs) (suc j) y z e = get-push_before xs j y z e
 
+-- the element that was added
+pub get-push_last : {X : Type 0} (xs : List X) (y : X) → slice_get (xs ++ y ∷ []) (length xs) ≡ Some y
+get-push_last [] y = refl
+get-push_last (x ∷ xs) y = get-push_last xs y
+
 -- no element past the end
 pub get-length : {X : Type 0} (xs : List X) → slice_get xs (length xs) ≡ None
 get-length [] = refl

@@ -1,12 +1,14 @@
 -- The law of the table: one call at a time, then over runs.
 use Rattle.std.proofs.Common.{◌≡◌, ℕ, Bool, true, false, List, [], ◌∷◌, Option, Some, None, inl, inr, sym, ap, subst}
-use Rattle.std.proofs.Common.{◌∙◌}
+use Rattle.std.proofs.Common.{◌∙◌, ◌≤◌, refl, arith}
 use Rattle.std.specs.Prelude.{slice_get, slice_set}
 use Rattle.std.proofs.lemmas.Bool.{cases_eq}
+use Rattle.std.specs.Option.{IsSome}
 use Rattle.std.specs.declared.time.Duration.{Duration}
+use Rattle.std.specs.Duration.{as_nanos}
 use Rattle.tiny_http_waiting.specs.declared.wait_table.Slot.{Slot}
 use Rattle.tiny_http_waiting.specs.declared.wait_table.Slot.TheVariants.{Free, Waiting, Served}
-use Rattle.tiny_http_waiting.specs.WaitTable.{event_at, wait_at, leave_at, EntersAt, WaitsUntil}
+use Rattle.tiny_http_waiting.specs.WaitTable.{event_at, wait_at, leave_at, EntersAt, WaitsUntil, TakesLate}
 use Rattle.tiny_http_waiting.specs.WaitTableLaw.{Step, Enter, Event, Wait, Late, Leave, token_of, Takes, Run, IsEvent}
 use Rattle.tiny_http_waiting.specs.WaitTableLaw.{EndsService}
 use Rattle.tiny_http_waiting.specs.WaitTableLaw.{OnlyEventsOf, NoneEndsServiceOf, HandsOutNothingOf, NoneOf}
@@ -167,3 +169,13 @@ waits [] waiting last token item until here run others = ap (λ l. slice_get l t
 waits ((step, out) ∷ steps) waiting last token item until here (between, takes, run) others =
     waits steps between last token item until
     (other_keeps step out waiting between token (Waiting item until) others.0 takes here) run others.1
+
+-- once the wait of a connection is over, `take_late` returns a connection
+pub not_forgotten : {T : Type 0} (steps : List (Step T × Option T)) (waiting last new : List (Slot T)) (token now : ℕ)
+    (item : T) (until : Duration) (out : Option (ℕ × T))
+    → WaitsUntil waiting token item until → Run steps waiting last → NoneOf token steps → as_nanos until ≤ now
+    → TakesLate now last out new → IsSome out
+not_forgotten steps waiting last new token now item until (Some late) here run others over takes = refl
+not_forgotten steps waiting last new token now item until None here run others over takes =
+    let later = takes.1 token item until (waits steps waiting last token item until here run others) in
+    absurd (omega (arith, over, later))

@@ -4,14 +4,20 @@ use Rattle.std.proofs.Common.{arith, length, get_or, ltb, ltb-true, sym, ap, sub
 use Rattle.std.specs.Option.{is_some}
 use Rattle.std.proofs.lemmas.List.{take_more}
 use Rattle.std.proofs.lemmas.Option.{slice_get_read, get_or_from_slice_get, same_Some}
-use Rattle.std.specs.Prelude.{slice_get, slice_set, IfSome}
+use Rattle.std.proofs.lemmas.Bool.{leb-true, leb-false}
+use Rattle.std.specs.Prelude.{slice_get, slice_set, IfSome, nat_le, if◌then◌else◌}
 use Rattle.std.specs.declared.time.Duration.{Duration}
 use Rattle.std.specs.Duration.{as_nanos}
 use Rattle.tiny_http_waiting.specs.declared.wait_table.Slot.{Slot}
 use Rattle.tiny_http_waiting.specs.declared.wait_table.Slot.TheVariants.{Free, Waiting, Served}
 use Rattle.tiny_http_waiting.specs.WaitTable.{EntersAt, IsOver, AllWaitUntil, NoWaitEndsBefore, after_event, item_of}
-use Rattle.tiny_http_waiting.specs.WaitTable.{after_wait, item_at_wait, wait_at}
-use Rattle.tiny_http_waiting.proofs.SlotLemmas.{set-same, get-set, get-push, get-length}
+use Rattle.tiny_http_waiting.specs.WaitTable.{after_wait, item_at_wait, wait_at, Waits, earlier, SomeWaitEndsAt}
+use Rattle.tiny_http_waiting.specs.WaitTable.{IsFirstEnd}
+use Rattle.tiny_http_waiting.proofs.SlotLemmas.{set-same, get-set, get-push, get-push_before, get-push_last, get-length}
+
+-- equal tables have equal slots
+pub same_slots : {T : Type 0} {old new : Waits T} → old ≡ new → old.slots ≡ new.slots
+same_slots {T} e = ap (λ (t : Waits T). t.slots) e
 
 -- whether no connection waits in this slot
 abbrev pub IsIdle : {T : Type 0} → Slot T → Type 0
@@ -85,6 +91,29 @@ pub lowered : {T : Type 0} (earliest : Option Duration) (slots : List (Slot T)) 
 lowered None slots time lower before = λ k item until w. absurd (before k item until w)
 lowered (Some other) slots time lower before =
     λ k item until w. let le : as_nanos other ≤ as_nanos until = before k item until w in omega (arith, le, lower)
+
+-- the earlier of two times is at or before both
+chosen_earlier : (first second : Duration) (is_first : Bool) → nat_le (as_nanos first) (as_nanos second) ≡ is_first
+    → (as_nanos (if is_first then first else second) ≤ as_nanos first)
+    × (as_nanos (if is_first then first else second) ≤ as_nanos second)
+chosen_earlier first second true is =
+    let le = leb-true (as_nanos first) (as_nanos second) is in (omega arith, omega (arith, le))
+chosen_earlier first second false is =
+    let lt = leb-false (as_nanos first) (as_nanos second) is in (omega (arith, lt), omega arith)
+
+-- the earlier of two times is at or before the first
+pub earlier_first : (first : Option Duration) (second time : Duration) → time ≡ earlier first second
+    → IfSome first (λ other. as_nanos time ≤ as_nanos other)
+earlier_first None second time is = tt
+earlier_first (Some other) second time is =
+    subst (λ (t : Duration). as_nanos t ≤ as_nanos other) (sym is) (chosen_earlier other second _ refl).0
+
+-- the earlier of two times is at or before the second
+pub earlier_second : (first : Option Duration) (second time : Duration) → time ≡ earlier first second
+    → as_nanos time ≤ as_nanos second
+earlier_second None second time is = subst (λ (t : Duration). as_nanos t ≤ as_nanos second) (sym is) (omega arith)
+earlier_second (Some other) second time is =
+    subst (λ (t : Duration). as_nanos t ≤ as_nanos second) (sym is) (chosen_earlier other second _ refl).1
 
 -- equal waiting slots have equal ends
 same_end : {T : Type 0} (item other : T) (until end : Duration) → Waiting item until ≡ Waiting other end → until ≡ end
@@ -199,26 +228,56 @@ next : {X : Type 0} (slots : List X) (k : ℕ) (slot : X) → k < length slots �
     (k + 1) slots ≡ take k slots ++ slot ∷ []
 next slots k slot within read = take_more slots k slot within ∙ ap (λ s. take k slots ++ s ∷ []) (sym read)
 
+-- a wait that ends at a time still does once a slot is added
+push_ends : {T : Type 0} (slots : List (Slot T)) (slot : Slot T) (time : Duration) → SomeWaitEndsAt time slots
+    → SomeWaitEndsAt time (slots ++ slot ∷ [])
+push_ends slots slot time (token, item, waits) = (token, item, get-push_before slots token slot _ waits)
+
+-- the first wait ends at the same time once a slot is added in which no connection waits
+push_idle : {T : Type 0} (earliest : Option Duration) (slots : List (Slot T)) (slot : Slot T)
+    → IsIdle slot → IsFirstEnd earliest slots → IsFirstEnd earliest (slots ++ slot ∷ [])
+push_idle None slots slot idle h = (after_push None slots slot idle h.0, tt)
+push_idle (Some time) slots slot idle h = (after_push (Some time) slots slot idle h.0, push_ends slots slot time h.1)
+
+-- one of two waits ends at the earlier of their ends
+push_chosen : {T : Type 0} (time : Duration) (slots : List (Slot T)) (item : T) (until : Duration) (is_first : Bool)
+    → SomeWaitEndsAt time slots
+    → SomeWaitEndsAt (if is_first then time else until) (slots ++ Waiting item until ∷ [])
+push_chosen time slots item until true ends = push_ends slots (Waiting item until) time ends
+push_chosen time slots item until false ends = (length slots, item, get-push_last slots (Waiting item until))
+
+-- the same of a first wait that there may not be
+push_earlier : {T : Type 0} (earliest : Option Duration) (slots : List (Slot T)) (item : T) (until : Duration)
+    → IfSome earliest (λ time. SomeWaitEndsAt time slots)
+    → SomeWaitEndsAt (earlier earliest until) (slots ++ Waiting item until ∷ [])
+push_earlier None slots item until ends = (length slots, item, get-push_last slots (Waiting item until))
+push_earlier (Some time) slots item until ends = push_chosen time slots item until _ ends
+
 -- the scan passes a slot that is idle
 pub scan_idle : {T : Type 0} (before after : Option Duration) (slots : List (Slot T)) (k : ℕ) (slot : Slot T)
     → k < length slots → slot ≡ get_or slots k slot → after ≡ before → IsIdle slot
-    → NoWaitEndsBefore before (take k slots) → NoWaitEndsBefore after (take (k + 1) slots)
+    → IsFirstEnd before (take k slots) → IsFirstEnd after (take (k + 1) slots)
 scan_idle {T} before after slots k slot within read same idle h =
-    subst (λ (l : List (Slot T)). NoWaitEndsBefore after l) (sym (next slots k slot within read))
-    (after_push after (take k slots) slot idle
-    (subst (λ (e : Option Duration). NoWaitEndsBefore e (take k slots)) (sym same) h))
+    subst (λ (l : List (Slot T)). IsFirstEnd after l) (sym (next slots k slot within read))
+    (push_idle after (take k slots) slot idle
+    (subst (λ (e : Option Duration). IsFirstEnd e (take k slots)) (sym same) h))
 
 -- the scan passes a slot that waits
 pub scan_waiting : {T : Type 0} (before after : Option Duration) (slots : List (Slot T)) (k : ℕ) (slot : Slot T)
     (time : Duration) (item : T) (until : Duration)
     → k < length slots → slot ≡ get_or slots k slot → after ≡ Some time → slot ≡ Waiting item until
-    → IfSome before (λ other. as_nanos time ≤ as_nanos other) → as_nanos time ≤ as_nanos until
-    → NoWaitEndsBefore before (take k slots) → NoWaitEndsBefore after (take (k + 1) slots)
-scan_waiting {T} before after slots k slot time item until within read is waits lower le h =
-    subst (λ (l : List (Slot T)). NoWaitEndsBefore after l)
-    (sym (next slots k slot within read ∙ ap (λ s. take k slots ++ s ∷ []) waits))
-    (subst (λ (e : Option Duration). NoWaitEndsBefore e (take k slots ++ Waiting item until ∷ [])) (sym is)
-    (after_push_waiting (take k slots) time item until le (lowered before (take k slots) time lower h)))
+    → time ≡ earlier before until
+    → IsFirstEnd before (take k slots) → IsFirstEnd after (take (k + 1) slots)
+scan_waiting {T} before after slots k slot time item until within read is waits first h =
+    let passed = take k slots in
+    subst (λ (l : List (Slot T)). IsFirstEnd after l)
+    (sym (next slots k slot within read ∙ ap (λ s. passed ++ s ∷ []) waits))
+    (subst (λ (e : Option Duration). IsFirstEnd e (passed ++ Waiting item until ∷ [])) (sym is) (
+      after_push_waiting passed time item until (earlier_second before until time first)
+          (lowered before passed time (earlier_first before until time first) h.0),
+      subst (λ (t : Duration). SomeWaitEndsAt t (passed ++ Waiting item until ∷ [])) (sym first)
+          (push_earlier before passed item until h.1),
+    ))
 
 -- the item that was taken is that of the connection whose wait is over
 pub takes_late : {T : Type 0} (time : ℕ) (slots now : List (Slot T)) (token : ℕ) (before new : Slot T)

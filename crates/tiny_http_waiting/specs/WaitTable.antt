@@ -1,13 +1,33 @@
 -- The table of the connections that wait or are served: the state of each token, and what each call does to it.
-use Rattle.std.specs.Prelude.{◌≡◌, ℕ, ◌<◌, ◌≤◌, true, false, List, [], ◌∷◌, ◌++◌, length, Option, Some, None}
-use Rattle.std.specs.Prelude.{Result, Ok, Err, slice_get, slice_set}
+use Rattle.std.specs.Prelude.{◌≡◌, ◌⊎◌, ℕ, ◌<◌, ◌≤◌, ◌-◌, nat_le, if◌then◌else◌, true, false, List, [], ◌∷◌, ◌++◌}
+use Rattle.std.specs.Prelude.{length, Option, Some, None, Result, Ok, Err, slice_get, slice_set, IfSome}
+use Rattle.std.specs.Option.{option_map}
 use Rattle.std.specs.declared.alloc.AllocError.{AllocError}
 use Rattle.std.specs.declared.time.Duration.{Duration}
 use Rattle.std.specs.Duration.{as_nanos}
 use Rattle.tiny_http_waiting.specs.declared.wait_table.Slot.{Slot}
 use Rattle.tiny_http_waiting.specs.declared.wait_table.Slot.TheVariants.{Free, Waiting, Served}
 
+-- The parts of a `WaitTable` that contracts refer to: the state of each token, from token 0 on; and a time before which
+-- no wait ends, or `None` if no connection waits.
+pub record Waits (T : Type 0) : Type 0 where
+  pub slots : List (Slot T)
+  pub earliest : Option Duration
+
+-- the earlier of two times, or the second if there is no first
+abbrev pub earlier : Option Duration → Duration → Duration
+earlier None second = second
+earlier (Some first) second = if nat_le (as_nanos first) (as_nanos second) then first else second
+
+-- the nanoseconds from `now` to this time, 0 if it is over, or `None` if there is no time
+abbrev pub nanos_left : ℕ → Option Duration → Option ℕ
+nanos_left now earliest = option_map (λ time. as_nanos time - now) earliest
+
 module _ {T : Type 0} where
+  -- the table without connections
+  abbrev pub nobody : Waits T
+  nobody = record { slots = []; earliest = None }
+
   -- the state of a token after an event
   abbrev pub after_event : Slot T → Slot T
   after_event Free = Free
@@ -94,3 +114,24 @@ module _ {T : Type 0} where
   abbrev pub NoWaitEndsBefore : Option Duration → List (Slot T) → Type 0
   NoWaitEndsBefore None slots = NoneWaits slots
   NoWaitEndsBefore (Some earliest) slots = AllWaitUntil (as_nanos earliest) slots
+
+  -- `earliest` after a `wait` until this time with this result: the earlier of both if the item is stored
+  abbrev pub earliest_at_wait : Option T → Duration → Option Duration → Option Duration
+  earliest_at_wait None until earliest = Some (earlier earliest until)
+  earliest_at_wait (Some item) until earliest = earliest
+
+  -- whether some wait ends at this time
+  abbrev pub SomeWaitEndsAt : Duration → List (Slot T) → Type 0
+  SomeWaitEndsAt time slots = (token : ℕ) × (item : T) × WaitsUntil slots token item time
+
+  -- whether the first wait ends at this time, or, for `None`, no connection waits
+  abbrev pub IsFirstEnd : Option Duration → List (Slot T) → Type 0
+  IsFirstEnd earliest slots =
+      NoWaitEndsBefore earliest slots × IfSome earliest (λ time. SomeWaitEndsAt time slots)
+
+  -- Whether `take_late` at `now` with this result changes `earliest` to this: it keeps it if it returns a connection.
+  -- If it returns `None`, the time is after `now`, and is the old one or the end of the first wait.
+  abbrev pub RenewsEarliest : ℕ → Option (ℕ × T) → Waits T → Option Duration → Type 0
+  RenewsEarliest now None old new =
+      IfSome new (λ time. now < as_nanos time) × ((new ≡ old.earliest) ⊎ IsFirstEnd new old.slots)
+  RenewsEarliest now (Some late) old new = new ≡ old.earliest

@@ -1,5 +1,5 @@
 -- Runs of calls of the table, and what they hand out. An `enter` that fails and a `take_late` that returns `None`
--- change nothing, so they are not steps.
+-- change no slot, so they are not steps.
 use Rattle.std.specs.Prelude.{◌≡◌, ℕ, List, [], ◌∷◌, Option, Some, None, Ok, ⊤, slice_get}
 use Rattle.std.specs.declared.time.Duration.{Duration}
 use Rattle.tiny_http_waiting.specs.declared.wait_table.Slot.{Slot}

@@ -1,9 +1,10 @@
 //! The law of the table of waiting connections, over all runs of its calls.
-ghost use Rattle.std.specs.Prelude.{◌≡◌, ℕ, Bool, List, Option, Some, None, slice_get};
+ghost use Rattle.std.specs.Prelude.{◌≡◌, ◌≤◌, ℕ, Bool, List, Option, Some, IsSome, slice_get};
+ghost use Rattle.std.specs.Duration.{as_nanos};
 ghost use Rattle.std.specs.declared.time.Duration.{Duration};
 ghost use Rattle.tiny_http_waiting.specs.declared.wait_table.Slot.{Slot};
 ghost use Rattle.tiny_http_waiting.specs.declared.wait_table.Slot.TheVariants.{Served};
-ghost use Rattle.tiny_http_waiting.specs.WaitTable.{WaitsUntil, NoWaitIsOver, TakesLate};
+ghost use Rattle.tiny_http_waiting.specs.WaitTable.{WaitsUntil, TakesLate};
 ghost use Rattle.tiny_http_waiting.specs.WaitTableLaw.{Step, Event, Wait, token_of, Takes, Run, EndsWait, OnlyEventsOf};
 ghost use Rattle.tiny_http_waiting.specs.WaitTableLaw.{NoneEndsServiceOf, HandsOutNothingOf, NoneOf};
 
@@ -12,7 +13,8 @@ ghost use Rattle.tiny_http_waiting.specs.WaitTableLaw.{NoneEndsServiceOf, HandsO
 /// - `once`: whatever events come, a connection that is served isn't handed out again before it waits or leaves.
 /// - `waits`: a connection that waits still waits after any calls for other connections.
 /// - `handed_out`: the call that ends a wait hands out the item that was stored.
-/// - `late`: if `take_late` returns `None`, no wait is over.
+/// - `not_forgotten`: if a connection waits, then after any calls for other connections, once its wait is over,
+///   `take_late` returns a connection.
 pub fn no_event_is_lost_and_none_is_served_twice<T>()
     ensures kept { (served noted last new : List (Slot T)) (token : ℕ) (is_ready : Bool) (at_event out : Option T)
         (steps : List (Step T × Option T)) (item : T) (until : Duration)
@@ -38,8 +40,12 @@ pub fn no_event_is_lost_and_none_is_served_twice<T>()
         → EndsWait step
         → Takes step out waiting new
         → out ≡ Some item }
-    ensures late { (old last new : List (Slot T)) (steps : List (Step T × Option T)) (now : ℕ)
-        → Run steps old last
-        → TakesLate now last None new
-        → NoWaitIsOver now last }
+    ensures not_forgotten { (waiting last new : List (Slot T)) (token now : ℕ) (item : T) (until : Duration)
+        (steps : List (Step T × Option T)) (out : Option (ℕ × T))
+        → WaitsUntil waiting token item until
+        → Run steps waiting last
+        → NoneOf token steps
+        → as_nanos until ≤ now
+        → TakesLate now last out new
+        → IsSome out }
 {}

@@ -1,8 +1,10 @@
 //! The table of the connections that wait or are served.
-ghost use Rattle.std.specs.Prelude.{◌≡◌, ◌↔◌, ◌-◌, ◌≤◌, ℕ, [], slice_get, All, IfSome, IfNone, IsTrue};
+ghost use Rattle.std.specs.Prelude.{◌≡◌, ◌↔◌, ◌-◌, ◌≤◌, ℕ, slice_get, All, IfSome, IfNone, IsTrue};
 ghost use Rattle.std.specs.Duration.{as_nanos};
-ghost use Rattle.tiny_http_waiting.specs.WaitTable.{event_at, wait_at, leave_at, Enters, TakesLate, WaitsUntil};
-ghost use Rattle.tiny_http_waiting.specs.WaitTable.{IsOver, NoneWaits, NoWaitIsOver, NoWaitEndsBefore};
+ghost use Rattle.std.specs.Option.{option_map};
+ghost use Rattle.tiny_http_waiting.specs.WaitTable.{nobody, event_at, wait_at, leave_at, Enters, TakesLate, WaitsUntil};
+ghost use Rattle.tiny_http_waiting.specs.WaitTable.{earlier, earliest_at_wait, RenewsEarliest, nanos_left};
+ghost use Rattle.tiny_http_waiting.specs.WaitTable.{IsOver, NoneWaits, NoWaitIsOver, IsFirstEnd};
 
 use std::alloc::{AllocError, Global};
 use std::marker::Model;
@@ -70,7 +72,8 @@ impl<T> Slot<T> {
 ///
 /// Each connection has a token and an item. `wait` stores the item, and `event`, `take_late` and `leave` hand it out,
 /// so either the table or one caller has it. An event for a connection that is served is kept, and makes the next
-/// `wait` hand the item back. Contracts see the slot of each token, from token 0 on.
+/// `wait` hand the item back. Contracts see the slot of each token, from token 0 on, and a time before which no wait
+/// ends.
 #[derive(Drop)]
 pub struct WaitTable<T> {
     slots: Vec<Slot<T>>,
@@ -81,13 +84,11 @@ pub struct WaitTable<T> {
 }
 
 impl<T> Model for WaitTable<T> {
-    ghost use Rattle.std.specs.Prelude.{List};
-    ghost use Rattle.tiny_http_waiting.specs.declared.wait_table.Slot.{Slot};
-    ghost use Rattle.tiny_http_waiting.specs.WaitTable.{NoWaitEndsBefore};
+    ghost use Rattle.tiny_http_waiting.specs.WaitTable.{Waits, NoWaitEndsBefore};
 
-    ghost Value = { List (Slot T) };
+    ghost Value = { Waits T };
 
-    ghost view = { λ t. t.slots.items };
+    ghost view = { λ t. record { slots = t.slots.items; earliest = t.earliest } };
 
     ghost invariant = { λ t. NoWaitEndsBefore t.earliest t.slots.items };
 }
@@ -95,7 +96,7 @@ impl<T> Model for WaitTable<T> {
 impl<T: Drop> WaitTable<T> {
     /// Creates an empty table.
     pub fn new(alloc: Global) -> WaitTable<T>
-        ensures { result ≡ [] }
+        ensures { result ≡ nobody }
     {
         WaitTable {
             slots: Vec::new(alloc),
@@ -106,7 +107,7 @@ impl<T: Drop> WaitTable<T> {
 
     /// Returns `true` if no token is in use.
     pub fn is_empty(&self) -> bool
-        ensures { IsTrue result ↔ All (λ slot. slot ≡ Slot.Free) self.now }
+        ensures { IsTrue result ↔ All (λ slot. slot ≡ Slot.Free) self.now.slots }
     {
         self.slots.iter().all(|slot| slot.is_free())
     }
@@ -114,7 +115,8 @@ impl<T: Drop> WaitTable<T> {
     /// Adds a connection that is served, with no event kept, and returns its token, which no other connection has.
     /// Fails if memory is refused, and then changes nothing.
     pub fn enter(&mut self) -> Result<usize, AllocError>
-        ensures { Enters self.old result self.new }
+        ensures slots { Enters self.old.slots result self.new.slots }
+        ensures earliest { self.new.earliest ≡ self.old.earliest }
     {
         if let Some(token) = self.free.pop()
             && let Some(Slot::Free) = self.slots.get(token)
@@ -131,7 +133,8 @@ impl<T: Drop> WaitTable<T> {
     /// served from then on. If it is served, the event is kept until the next `wait`. If no connection has the token,
     /// nothing changes.
     pub fn event(&mut self, token: usize) -> Option<T>
-        ensures { (result, self.new) ≡ event_at (slice_get self.old token) token self.old }
+        ensures slots { (result, self.new.slots) ≡ event_at (slice_get self.old.slots token) token self.old.slots }
+        ensures earliest { self.new.earliest ≡ self.old.earliest }
     {
         let slot = self.slots.get_mut(token)?;
         let (after, item) = mem::replace(slot, Slot::Free).at_event();
@@ -143,7 +146,9 @@ impl<T: Drop> WaitTable<T> {
     /// Returns the item if an event has come since it was handed out; the connection is then still served, and the
     /// event is no longer kept. Returns the item and changes nothing if no served connection has this token.
     pub fn wait(&mut self, token: usize, item: T, until: Duration) -> Option<T>
-        ensures { (result, self.new) ≡ wait_at (slice_get self.old token) token item until self.old }
+        ensures slots { (result, self.new.slots)
+            ≡ wait_at (slice_get self.old.slots token) token item until self.old.slots }
+        ensures earliest { self.new.earliest ≡ earliest_at_wait result until self.old.earliest }
     {
         let Some(slot) = self.slots.get_mut(token) else {
             return Some(item);
@@ -158,7 +163,8 @@ impl<T: Drop> WaitTable<T> {
 
     /// Removes the connection with this token, and returns its item if it waited.
     pub fn leave(&mut self, token: usize) -> Option<T>
-        ensures { (result, self.new) ≡ leave_at (slice_get self.old token) token self.old }
+        ensures slots { (result, self.new.slots) ≡ leave_at (slice_get self.old.slots token) token self.old.slots }
+        ensures earliest { self.new.earliest ≡ self.old.earliest }
     {
         let slot = self.slots.get_mut(token)?;
         let before = mem::replace(slot, Slot::Free);
@@ -172,7 +178,8 @@ impl<T: Drop> WaitTable<T> {
     /// Takes the item of a connection whose wait is over at `now`, with its token. The connection is then served, with
     /// no event kept. Returns `None` if no wait is over.
     pub fn take_late(&mut self, now: Duration) -> Option<(usize, T)>
-        ensures { TakesLate (as_nanos now) self.old result self.new }
+        ensures slots { TakesLate (as_nanos now) self.old.slots result self.new.slots }
+        ensures earliest { RenewsEarliest (as_nanos now) result self.old self.new.earliest }
     {
         let earliest = self.earliest?;
         if !is_over(earliest, now) {
@@ -189,9 +196,10 @@ impl<T: Drop> WaitTable<T> {
     /// Returns how long the caller may wait for events at `now` before it calls `take_late`: no wait is over sooner.
     /// Returns `None` only if no connection waits.
     pub fn time_left(&self, now: Duration) -> Option<Duration>
-        ensures none { IfNone result (NoneWaits self.now) }
+        ensures earliest { option_map as_nanos result ≡ nanos_left (as_nanos now) self.now.earliest }
+        ensures none { IfNone result (NoneWaits self.now.slots) }
         ensures some { IfSome result (λ left. (token : ℕ) (item : T) (until : Duration)
-            → WaitsUntil self.now token item until
+            → WaitsUntil self.now.slots token item until
             → as_nanos left ≤ as_nanos until - as_nanos now) }
     {
         Some(self.earliest?.saturating_sub(now))
@@ -207,8 +215,7 @@ fn is_over(until: Duration, now: Duration) -> bool
 
 // Returns the earlier of two times, or the second if there is no first.
 fn earlier(first: Option<Duration>, second: Duration) -> Duration
-    ensures first { IfSome first (λ time. as_nanos result ≤ as_nanos time) }
-    ensures second { as_nanos result ≤ as_nanos second }
+    ensures { result ≡ earlier first second }
 {
     match first {
         Some(time) if is_over(time, second) => time,
@@ -233,7 +240,7 @@ fn late_token<T>(slots: &[Slot<T>], now: Duration) -> Option<usize>
 
 // Returns the time at which the first wait ends, or `None` if no connection waits.
 fn earliest_end<T>(slots: &[Slot<T>]) -> Option<Duration>
-    ensures { NoWaitEndsBefore result slots.now }
+    ensures { IsFirstEnd result slots.now }
 {
     let mut earliest = None;
     for slot in slots {
