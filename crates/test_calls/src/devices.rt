@@ -150,7 +150,7 @@ impl Write for Taker {
 pub type Below = Metered<Taker>;
 
 // Maximum number of bytes that a response reads from its data at a time.
-const PIECE: u64 = 8_192;
+const PIECE: u64 = 65_536;
 
 /// The data of a response, which record how much of them is read.
 #[derive(Drop)]
@@ -174,7 +174,7 @@ impl Watched {
         })
     }
 
-    /// Returns how much was read: `nothing` if no read was made, `a piece` if at most 8192 bytes were read, or `more`.
+    /// Returns how much was read: `nothing` if no read was made, `a piece` if at most 65,536 bytes were read, or `more`.
     pub fn reads(&self) -> &'static str {
         if self.calls == 0 {
             "nothing"

@@ -1,19 +1,19 @@
-//! Accepting clients. Each client is a job of the worker pool, which reads the client's requests and puts them into the
-//! server's queue. Once the server serves with a handler, the clients themselves go into the queue, and `serve` takes
-//! them out.
+//! Accepting clients. The server's workers read their requests and put them into the server's queue. Once the server
+//! serves with a handler, the clients themselves go into the queue, and `serve` takes them out.
 ghost use Rattle.std.specs.Prelude.{◌≡◌};
 ghost use Rattle.tiny_http.specs.Message.{received};
 
 use crate::arrival::{Arrival, Client};
+use crate::crew::{Crew, Progress, Task};
 use crate::ending::Ending;
 use crate::faults::passes;
 use crate::registry::{ConnectionGuard, ConnectionHandle, ConnectionRegistry};
 use crate::server::{ServerReader, ServerRequest, ServerWriter};
+use crate::serving::Handler;
 use std::alloc::Global;
 use std::net::SocketAddr;
 use std::sync::atomic::{AtomicBool, Ordering};
 use std::sync::{Arc, Wait};
-use std::thread::Threads;
 use std::time::Clock;
 use std::{io, thread};
 use tiny_http_core::framing::Profile;
@@ -27,7 +27,6 @@ use tiny_http_socket::shared_state::SharedState;
 use tiny_http_socket::timed_reader::TimedReader;
 use tiny_http_socket::timed_writer::TimedWriter;
 use tiny_http_threads::messages_queue::MessagesQueue;
-use tiny_http_threads::task_pool::{Job, TaskPool};
 
 /// A message in a server's queue.
 #[derive(Drop)]
@@ -79,29 +78,55 @@ pub(crate) fn drop_waiting<R: Wait + Clock + Drop>(
     }
 }
 
+/// What the clients of a server share while their requests are put into the server's queue.
+#[derive(Drop)]
+pub(crate) struct Queuing<R: Wait + Clock + Drop> {
+    pub messages: Arc<Messages<R>>,
+    pub ending: Arc<Ending>,
+    // Set once the server serves with a handler.
+    pub serving: Arc<AtomicBool>,
+}
+
+impl<R: Wait + Clock + Drop> Handler<R, ServerRequest<R>> for Queuing<R> {
+    /// Puts the request into the queue, or drops it if the queue has no room. Once the server has been closed, nothing
+    /// takes requests from the queue, so a thread that adds one then empties the queue.
+    fn handle(&self, rt: &R, _alloc: Global, request: ServerRequest<R>) -> io::Result<()> {
+        let _ = self.messages.push(rt, Message::NewRequest(request));
+        if self.ending.is_closed() {
+            drop_waiting(rt, &self.messages, &self.ending);
+        }
+        Ok(())
+    }
+}
+
 /// A client whose requests are put into the queue.
 #[derive(Drop)]
 pub(crate) struct Reading<R: Wait + Clock + Drop> {
-    // `None` once the job is done.
-    client: Option<Client<R>>,
-    messages: Arc<Messages<R>>,
-    serving: Arc<AtomicBool>,
+    rt: R,
+    alloc: Global,
+    queuing: Arc<Queuing<R>>,
+    // `None` once the client itself is in the queue.
+    arrival: Option<Arrival<R>>,
 }
 
-impl<R: Wait + Clock + Copy> Job for Reading<R> {
-    /// Puts the client's requests into the queue, waits until all are answered, and closes the connection. If the
-    /// server serves with a handler by then, it puts the client itself into the queue, to be served.
-    fn run(&mut self) {
-        let Some(mut client) = self.client.take() else {
-            return;
-        };
-        let Some(request) = client.read_requests(&self.messages, &self.serving) else {
-            client.close();
-            return;
-        };
-        let rt = client.rt;
-        if let Ok(ending) = Arc::try_clone(&client.ending) {
-            Arrival::new(client, Some(request)).put(&rt, &self.messages, &ending);
+impl<R: Wait + Clock + Copy> Task for Reading<R> {
+    /// Puts the requests that have come into the queue, and after the last closes the connection. If the server serves
+    /// with a handler by then, puts the client itself into the queue, to be served.
+    fn run(&mut self, is_late: bool) -> Progress {
+        let Queuing {
+            messages,
+            ending,
+            serving,
+        } = &*self.queuing;
+        let moves = !is_late && serving.load(Ordering::SeqCst);
+        if moves && let Some(arrival) = self.arrival.take_if(|arrival| arrival.is_open()) {
+            let socket = arrival.socket();
+            arrival.put(&self.rt, messages, ending);
+            return Progress::Left(socket);
+        }
+        match &mut self.arrival {
+            Some(arrival) => arrival.answer_by(self.alloc, &*self.queuing, is_late),
+            None => Progress::Over,
         }
     }
 }
@@ -115,19 +140,18 @@ pub(crate) struct Accepting<R: Wait + Clock + Drop> {
     pub limits: Option<Limits>,
     pub listener: Listener,
     pub ending: Arc<Ending>,
-    // Set once the server serves with a handler.
-    pub serving: Arc<AtomicBool>,
-    pub messages: Arc<Messages<R>>,
+    pub queuing: Arc<Queuing<R>>,
     pub registry: Arc<ConnectionRegistry>,
-    pub pool: TaskPool<Reading<R>, R>,
+    pub crew: Arc<Crew<Reading<R>>>,
 }
 
-impl<R: Wait + Clock + Threads + Copy + Send + 'static> Accepting<R> {
+impl<R: Wait + Clock + Copy> Accepting<R> {
     /// Accepts clients until the server is closed or accepting fails. The error that ends accepting is put into the
     /// queue.
     pub fn run(self) {
         self.accept_all();
         self.ending.end_accepting();
+        self.crew.close(&self.rt);
     }
 
     // Accepts clients, as `run` does. Under limits it waits at the connection limit, and after a temporary error.
@@ -152,34 +176,36 @@ impl<R: Wait + Clock + Threads + Copy + Send + 'static> Accepting<R> {
                     thread::sleep(&self.rt, backoff.take());
                 }
                 Err(fault) => {
-                    let _ = self.messages.push(&self.rt, Message::Error(fault));
+                    let _ = self.queuing.messages.push(&self.rt, Message::Error(fault));
                     return;
                 }
             }
         }
     }
 
-    // Has a worker read this client's requests, or queues the client to be served. If that fails, the client is closed.
+    // Has the workers read this client's requests, or queues the client to be served. If that fails, the client is
+    // closed.
     fn begin(&self, connection: Connection, remote_addr: Option<SocketAddr>) {
         let Some(client) = self.client(connection, remote_addr) else {
             return;
         };
-        if self.serving.load(Ordering::SeqCst) {
-            Arrival::new(client, None).put(&self.rt, &self.messages, &self.ending);
+        let (rt, alloc) = (self.rt, self.alloc);
+        let mut arrival = Arrival::new(client);
+        if self.queuing.serving.load(Ordering::SeqCst) {
+            arrival.put(&rt, &self.queuing.messages, &self.ending);
             return;
         }
-        if let (Ok(messages), Ok(serving)) = (
-            Arc::try_clone(&self.messages),
-            Arc::try_clone(&self.serving),
-        ) {
-            let client = Some(client);
-            let reading = Reading {
-                client,
-                messages,
-                serving,
-            };
-            let _ = self.pool.spawn(&self.rt, self.alloc, reading);
-        }
+        let Ok(queuing) = Arc::try_clone(&self.queuing) else {
+            return;
+        };
+        let (socket, until) = (arrival.socket(), arrival.begin());
+        let reading = Reading {
+            rt,
+            alloc,
+            queuing,
+            arrival: Some(arrival),
+        };
+        self.crew.add(&rt, alloc, reading, Some(socket), until);
     }
 
     // Returns the client of this connection, or `None` if memory is refused, a limit refuses the client, or the server
@@ -192,11 +218,6 @@ impl<R: Wait + Clock + Threads + Copy + Send + 'static> Accepting<R> {
         let ending = Arc::try_clone(&self.ending).ok()?;
         let upgraded = Arc::try_clone(self.registry.upgraded()).ok()?;
         let shared = SharedState::new(alloc, self.limits, upgraded).ok()?;
-        let guard = self.enter(remote_addr, &socket, &shared)?;
-        if self.ending.is_closed() {
-            // The server was closed before the client was registered.
-            return None;
-        }
         let secure = reader.secure();
         let (reader, writer) = self.timed_halves(reader, writer, &socket, &shared)?;
         let cork = Arc::try_clone(writer.cork()).ok()?;
@@ -214,6 +235,7 @@ impl<R: Wait + Clock + Threads + Copy + Send + 'static> Accepting<R> {
         connection
             .set_shared_state(Arc::try_clone(&shared).ok()?)
             .ok()?;
+        let guard = self.enter(remote_addr, &socket, &shared, connection.closed_flag())?;
         Some(Client {
             rt,
             ending,
@@ -243,17 +265,23 @@ impl<R: Wait + Clock + Threads + Copy + Send + 'static> Accepting<R> {
     }
 
     // Counts a client of this address as connected. Returns `None` if a limit refuses the client, memory is refused, or
-    // no further handle can be made.
+    // the server was closed before the client was registered.
     fn enter(
         &self,
         remote_addr: Option<SocketAddr>,
         socket: &Arc<Connection>,
         shared: &Arc<SharedState>,
+        closed_flag: &Arc<AtomicBool>,
     ) -> Option<ConnectionGuard<R>> {
         let handle = ConnectionHandle {
             socket: Arc::try_clone(socket).ok()?,
             shared: Arc::try_clone(shared).ok()?,
+            closed_flag: Arc::try_clone(closed_flag).ok()?,
         };
-        ConnectionGuard::enter(self.rt, &self.registry, remote_addr, handle)
+        let guard = ConnectionGuard::enter(self.rt, &self.registry, remote_addr, handle)?;
+        if self.ending.is_closed() {
+            return None;
+        }
+        Some(guard)
     }
 }

@@ -1,7 +1,7 @@
 //! The clients of a server, and what is done for each: its requests are put into the server's queue, or handed to a
 //! handler one after another.
 use crate::accepting::{Message, Messages, drop_waiting};
-use crate::closing::{Draining, close_in_stages};
+use crate::closing::Draining;
 use crate::crew::Progress;
 use crate::ending::Ending;
 use crate::registry::{ConnectionGuard, time_of};
@@ -10,7 +10,6 @@ use crate::serving::Handler;
 use std::alloc::Global;
 use std::mem;
 use std::os::fd::{AsRawFd, RawFd};
-use std::sync::atomic::{AtomicBool, Ordering};
 use std::sync::{Arc, Wait};
 use std::time::{Clock, Duration};
 use tiny_http_limits::counts::Closing;
@@ -40,39 +39,6 @@ pub(crate) struct Client<R: Wait + Clock + Drop> {
 }
 
 impl<R: Wait + Clock + Copy> Client<R> {
-    /// Puts the client's requests into the queue until there is no further one. Once the server serves with a handler,
-    /// returns the next request instead of queuing it. A request is dropped if the queue has no room for it. Once the
-    /// server has been closed, nothing takes requests from the queue, so a thread that adds one then empties the queue.
-    pub fn read_requests(
-        &mut self,
-        messages: &Messages<R>,
-        serving: &AtomicBool,
-    ) -> Option<ServerRequest<R>> {
-        let rt = self.rt;
-        for _ in rt.forever() {
-            let now = current_date(&rt);
-            let Ok(Some(request)) = self.connection.next(now) else {
-                return None;
-            };
-            if serving.load(Ordering::SeqCst) {
-                return Some(request);
-            }
-            let _ = messages.push(&rt, Message::NewRequest(request));
-            if self.ending.is_closed() {
-                drop_waiting(&rt, messages, &self.ending);
-                return None;
-            }
-        }
-        None
-    }
-
-    /// Waits until all the client's requests are answered, and closes the connection.
-    pub fn close(&mut self) {
-        if self.is_answered() {
-            close_in_stages(&self.rt, &self.socket, self.has_limits());
-        }
-    }
-
     // Sends what is held, and waits until all the client's requests are answered. Returns false if memory is refused.
     fn is_answered(&mut self) -> bool {
         self.cork.send();
@@ -163,9 +129,7 @@ impl Idle {
 
 // How far a client is served.
 #[derive(Drop)]
-enum Stage<R: Wait + Clock + Drop> {
-    // This request is to be handed to the handler first.
-    First(ServerRequest<R>),
+enum Stage {
     // The next head hasn't begun.
     Idle(Idle),
     // The next head has begun, at this time.
@@ -174,21 +138,20 @@ enum Stage<R: Wait + Clock + Drop> {
     Draining(Draining),
 }
 
-/// A client that is to be served.
+/// A client whose requests are to be handed to a handler.
 #[derive(Drop)]
 pub(crate) struct Arrival<R: Wait + Clock + Drop> {
     client: Client<R>,
-    stage: Stage<R>,
+    stage: Stage,
 }
 
 impl<R: Wait + Clock + Copy> Arrival<R> {
-    /// Returns the arrival of a client, and of its next request, if that was read already.
-    pub fn new(client: Client<R>, next: Option<ServerRequest<R>>) -> Arrival<R> {
-        let stage = match next {
-            Some(request) => Stage::First(request),
-            None => Stage::Idle(Idle::new()),
-        };
-        Arrival { client, stage }
+    /// Returns the arrival of a client.
+    pub fn new(client: Client<R>) -> Arrival<R> {
+        Arrival {
+            client,
+            stage: Stage::Idle(Idle::new()),
+        }
     }
 
     /// Puts the client into the queue. Once the server has been closed, nothing takes a client from the queue, so this
@@ -205,18 +168,29 @@ impl<R: Wait + Clock + Copy> Arrival<R> {
         self.client.socket.as_raw_fd()
     }
 
-    /// Prepares the client to be served. Returns the time until which it may send nothing, or `None` if it is to be
-    /// served at once.
+    /// Allows responses to be held, so that several leave together, unless no further handle to the policy can be made.
+    pub fn hold_responses(&mut self) {
+        if let Ok(flush_policy) = Arc::try_clone(self.client.cork.flush_policy()) {
+            self.client.connection.set_flush_policy(flush_policy);
+        }
+    }
+
+    /// Begins the wait for the client's next head, or goes on with it. Returns the time until which the client may send
+    /// nothing, or `None` if it is to be served at once.
     pub fn begin(&mut self) -> Option<Duration> {
-        let flush_policy = Arc::try_clone(self.client.cork.flush_policy()).ok()?;
-        self.client.connection.set_flush_policy(flush_policy);
-        if let Stage::First(_) = &self.stage {
-            return None;
-        }
-        match self.wait(Readiness::Idle) {
+        let has_come = match &self.stage {
+            Stage::Head(_) => Readiness::Part,
+            _ => Readiness::Idle,
+        };
+        match self.wait(has_come) {
             Progress::Waits(until) => Some(until),
-            Progress::Over => None,
+            Progress::Over | Progress::Left(_) => None,
         }
+    }
+
+    /// Returns whether the client's connection isn't being closed.
+    pub fn is_open(&self) -> bool {
+        !matches!(self.stage, Stage::Draining(_))
     }
 
     /// Hands the client's requests to a handler as long as they come, and then waits for the next one. After the last
@@ -229,7 +203,6 @@ impl<R: Wait + Clock + Copy> Arrival<R> {
         is_late: bool,
     ) -> Progress {
         match mem::replace(&mut self.stage, Stage::Idle(Idle::new())) {
-            Stage::First(request) => self.answer_first(alloc, handler, request),
             Stage::Draining(draining) => self.drain(draining, is_late),
             Stage::Idle(idle) if is_late => self.end_idle(idle),
             Stage::Head(_) if is_late => {
@@ -243,25 +216,6 @@ impl<R: Wait + Clock + Copy> Arrival<R> {
             }
             Stage::Idle(_) => self.answer_more(alloc, handler),
         }
-    }
-
-    // Hands the first request to a handler, unless the server has been closed.
-    fn answer_first<H: Handler<R, ServerRequest<R>>>(
-        &mut self,
-        alloc: Global,
-        handler: &H,
-        request: ServerRequest<R>,
-    ) -> Progress {
-        if self.client.ending.is_closed() {
-            // `close` would wait for a request that is held.
-            drop(request);
-            return self.close();
-        }
-        if !request.is_lost() {
-            let _ = handler.handle(&self.client.rt, alloc, request);
-        }
-        let readiness = self.client.readiness();
-        self.answer_from(alloc, handler, readiness)
     }
 
     // Reads what the client has sent, and hands the requests whose heads are whole to a handler.

@@ -30,7 +30,8 @@ pub(crate) struct Draining {
 }
 
 impl Draining {
-    /// Shuts down writing, and makes reads of the socket not wait. Returns `None` if their timeout can't be set.
+    /// Shuts down writing, and makes reads of the socket not wait. Returns `None` if their timeout can't be set; nothing
+    /// is discarded then.
     pub fn begin<R: Clock>(rt: &R, socket: &Connection) -> Option<Draining> {
         let begun = time_of(rt);
         let _ = socket.shutdown(Shutdown::Write);
@@ -79,28 +80,5 @@ impl Draining {
         }
         let left = time_left(self.begun, now, most)?;
         Some(now.saturating_add(silence.min(left)))
-    }
-}
-
-/// Closes a connection whose requests are all answered, on this thread: shuts down writing, then discards what the
-/// client still sends, until the client closes, is silent for too long or sends too much. Under limits no read begins
-/// after 5 seconds. If the read timeout can't be set, nothing is discarded.
-pub(crate) fn close_in_stages<R: Clock>(rt: &R, socket: &Connection, has_limits: bool) {
-    let begun = time_of(rt);
-    let most = Duration::from_secs(LINGER_SECS);
-    let _ = socket.shutdown(Shutdown::Write);
-    if socket
-        .set_read_timeout(Duration::from_millis(LINGER_MILLIS))
-        .is_err()
-    {
-        return;
-    }
-    let mut away = [0u8; LINGER_PIECE];
-    for _ in 0..LINGER_READS {
-        match socket.read_shared(&mut away) {
-            Ok(0) | Err(_) => return,
-            Ok(_) if has_limits && time_left(begun, time_of(rt), most).is_none() => return,
-            Ok(_) => {}
-        }
     }
 }

@@ -1,4 +1,4 @@
-//! The workers that serve a server's connections. A connection that waits for its client takes no worker.
+//! The workers that read or serve a server's connections. A connection that waits for its client takes no worker.
 //!
 //! One worker at a time waits at the `Poll` for events. It serves the first connection that is ready itself, and wakes
 //! idle workers for the others. While it serves, nobody may wait at the `Poll`: if that lasts, the watcher wakes or
@@ -16,13 +16,8 @@ use std::sync::{Arc, Condvar, Mutex, MutexGuard, Wait};
 use std::thread::Threads;
 use std::time::{Clock, Duration};
 use std::{io, mem, thread};
+use tiny_http_threads::task_pool::{IDLE_MILLIS, MIN_THREADS};
 use tiny_http_waiting::wait_table::WaitTable;
-
-// Number of workers that a crew keeps even if they are idle.
-const LEAST_WORKERS: usize = 4;
-
-// How long a worker beyond those may be idle before it ends, in milliseconds.
-const IDLE_MILLIS: u64 = 5_000;
 
 // Maximum number of events that are taken at once.
 const MOST_EVENTS: usize = 64;
@@ -40,6 +35,8 @@ pub(crate) enum Progress {
     Waits(Duration),
     /// Nothing: the task is over.
     Over,
+    /// Nothing here: something else goes on with the task, and its socket's events go there.
+    Left(RawFd),
 }
 
 /// What a crew works on, such as a connection.
@@ -162,7 +159,7 @@ impl<T: Drop> CrewState<T> {
     }
 }
 
-/// The workers of a call to `serve`, and the tasks on which they work. They end once the crew has been closed and every
+/// The workers of a server or of a call to `serve`, and the tasks on which they work. They end once the crew has been closed and every
 /// task is over.
 #[derive(Drop)]
 pub(crate) struct Crew<T> {
@@ -230,7 +227,11 @@ impl<T: Task + Drop> Crew<T> {
             mut task,
             is_late,
         } = turn;
-        let Progress::Waits(until) = task.run(is_late) else {
+        let progress = task.run(is_late);
+        let Progress::Waits(until) = progress else {
+            if let Progress::Left(socket) = progress {
+                let _ = self.registry.deregister(&mut SourceFd(&socket));
+            }
             drop(task);
             let mut state = self.state.lock(rt);
             state.leave(token);
@@ -292,7 +293,7 @@ impl<T: Task + Drop> Crew<T> {
     ) -> (MutexGuard<'a, CrewState<T>>, bool) {
         state.idle = state.idle.saturating_add(1);
         let mut timed_out = false;
-        if state.running > LEAST_WORKERS {
+        if state.running > MIN_THREADS {
             let timeout = Duration::from_millis(IDLE_MILLIS);
             let (woken, waited) = self.worker_woken.wait_timeout(rt, state, timeout);
             state = woken;
@@ -301,7 +302,7 @@ impl<T: Task + Drop> Crew<T> {
             state = self.worker_woken.wait(rt, state);
         }
         state.idle = state.idle.saturating_sub(1);
-        let has_ended = timed_out && state.running > LEAST_WORKERS && !state.is_unattended();
+        let has_ended = timed_out && state.running > MIN_THREADS && !state.is_unattended();
         if has_ended {
             state.running = state.running.saturating_sub(1);
         }
@@ -457,7 +458,7 @@ impl<T: Task + Drop + Send + 'static> Crew<T> {
         rt: R,
         crew: &Arc<Crew<T>>,
     ) -> io::Result<()> {
-        for _ in 0..LEAST_WORKERS.min(crew.most) {
+        for _ in 0..MIN_THREADS.min(crew.most) {
             if !Crew::start_worker(rt, crew)? {
                 return Err(ErrorKind::WouldBlock.into());
             }

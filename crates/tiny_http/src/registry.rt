@@ -2,7 +2,7 @@
 use crate::ending::Ending;
 use std::alloc::{AllocError, Global};
 use std::net::{Shutdown, SocketAddr};
-use std::sync::atomic::AtomicU64;
+use std::sync::atomic::{AtomicBool, AtomicU64, Ordering};
 use std::sync::{Arc, Condvar, Mutex, Wait};
 use std::time::{Clock, Duration};
 use tiny_http_limits::connection_table::{ConnectionTable, Refusal};
@@ -17,6 +17,8 @@ use tiny_http_socket::shared_state::SharedState;
 pub(crate) struct ConnectionHandle {
     pub socket: Arc<Connection>,
     pub shared: Arc<SharedState>,
+    // Ends the requests of the connection once it is set.
+    pub closed_flag: Arc<AtomicBool>,
 }
 
 // The open connections, and the server's counters, to which a connection's own are added when it closes.
@@ -142,13 +144,16 @@ impl ConnectionRegistry {
         self.changed.notify_all();
     }
 
-    /// Makes each connection read no further head, and ends the connections that wait for one.
+    /// Makes each connection read no further head. Ends the connections that wait for one; in the others the last
+    /// response says that the connection closes.
     pub fn stop<R: Wait>(&self, rt: &R) {
         let connections = self.connections.lock(rt);
         for entry in connections.table.entries() {
             let handle = entry.item();
             if handle.shared.stop() {
                 let _ = handle.socket.shutdown(Shutdown::Read);
+            } else {
+                handle.closed_flag.store(true, Ordering::SeqCst);
             }
         }
     }

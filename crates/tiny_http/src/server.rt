@@ -3,7 +3,8 @@ ghost use Rattle.std.specs.Prelude.{◌≡◌, Err, IsSome, IsErr};
 ghost use Rattle.httpdate.specs.Date.{unix_secs};
 ghost use Rattle.tiny_http.specs.Clock.{seconds_of};
 
-use crate::accepting::{Accepting, Message, Messages};
+use crate::accepting::{Accepting, Message, Messages, Queuing};
+use crate::crew::Crew;
 use crate::ending::Ending;
 use crate::registry::{ConnectionRegistry, time_of};
 use httpdate::HttpDate;
@@ -31,7 +32,6 @@ use tiny_http_socket::timed_reader::TimedReader;
 use tiny_http_socket::timed_writer::TimedWriter;
 use tiny_http_threads::messages_queue::MessagesQueue;
 use tiny_http_threads::sequential::SequentialWriter;
-use tiny_http_threads::task_pool::TaskPool;
 
 // Initial capacity of the queue, in messages.
 const QUEUE_ROOM: usize = 8;
@@ -382,6 +382,13 @@ impl<R: ServerRuntime> Server<R> {
         let messages = MessagesQueue::with_capacity(alloc, QUEUE_ROOM)?;
         let registry = ConnectionRegistry::new(alloc, limits.as_ref())?;
         let most_workers = limits.as_ref().map_or(usize::MAX, |limits| limits.workers);
+        let queuing = Queuing {
+            messages: Arc::try_clone(&messages)?,
+            ending: Arc::try_clone(&ending)?,
+            serving: Arc::try_clone(&serving)?,
+        };
+        let queuing = Arc::new(alloc, queuing)?;
+        let crew = Crew::start(rt, alloc, most_workers)?;
         let accepting = Accepting {
             rt,
             alloc,
@@ -389,12 +396,12 @@ impl<R: ServerRuntime> Server<R> {
             limits,
             listener,
             ending: Arc::try_clone(&ending)?,
-            serving: Arc::try_clone(&serving)?,
-            messages: Arc::try_clone(&messages)?,
+            queuing,
             registry: Arc::try_clone(&registry)?,
-            pool: TaskPool::new(rt, alloc)?,
+            crew: Arc::try_clone(&crew)?,
         };
         if thread::spawn(&rt, move || accepting.run()).is_err() {
+            crew.close(&rt);
             return Err(ErrorKind::WouldBlock.into());
         }
         Ok(Server {

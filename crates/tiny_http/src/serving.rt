@@ -116,6 +116,7 @@ impl<R: ServerRuntime> Server<R> {
         for _ in rt.forever() {
             let (work, socket, until) = match self.messages.pop(&rt) {
                 Some(Message::NewClient(mut arrival)) => {
+                    arrival.hold_responses();
                     let (socket, until) = (arrival.socket(), arrival.begin());
                     (Work::Client(arrival), Some(socket), until)
                 }

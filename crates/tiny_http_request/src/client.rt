@@ -13,6 +13,7 @@ use memchr::{memchr, memmem};
 use std::alloc::{AllocError, Global};
 use std::io::ErrorKind;
 use std::net::SocketAddr;
+use std::sync::atomic::AtomicBool;
 use std::sync::{Arc, Wait};
 use tiny_http_body::body::UnreadBody;
 use tiny_http_body::framing::Profile;
@@ -242,6 +243,12 @@ impl<R: ReadDevice + Drop, W: WriteDevice + Drop, Rt: Wait + Copy> ClientConnect
         }
         self.links.shared = Some(shared);
         Ok(())
+    }
+
+    /// Returns the flag that ends the requests once it is set, as a response made with `with_close` does: no further
+    /// request is handed out, and a response that hasn't begun says so if it is the last.
+    pub fn closed_flag(&self) -> &Arc<AtomicBool> {
+        self.sink.closed_flag()
     }
 
     /// Reads the next request and hands it out. If the connection has no further request, this call and each later one

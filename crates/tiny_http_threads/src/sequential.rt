@@ -12,7 +12,7 @@ use crate::turn_queue::{Held, Turn, TurnQueue};
 use std::alloc::{AllocError, Global};
 use std::io;
 use std::io::{ErrorKind, Read, Write};
-use std::sync::atomic::AtomicU64;
+use std::sync::atomic::{AtomicBool, AtomicU64};
 use std::sync::{Arc, Wait};
 use tiny_http_io::device::WriteDevice;
 use tiny_http_io::outlet::Outlet;
@@ -141,6 +141,12 @@ impl<W: Write + Drop, R: Wait + Copy> SequentialWriterBuilder<W, R> {
     #[doc(hidden)]
     pub fn is_closed(&self) -> bool {
         self.queue.is_closed()
+    }
+
+    /// Returns the flag that closes the queue once it is set. Any thread may set it.
+    #[doc(hidden)]
+    pub fn closed_flag(&self) -> &Arc<AtomicBool> {
+        self.queue.closed_flag()
     }
 
     /// Makes the queue close once one of its writers meets a fault, or `close_if_broken` finds that the output has

@@ -266,7 +266,7 @@ fn share<T: Drop>(
     let queue = TurnQueue {
         state: Mutex::new(state),
         finished: Condvar::new(),
-        is_closed: AtomicBool::new(false),
+        is_closed: Arc::new(alloc, AtomicBool::new(false))?,
         closes_when_broken: AtomicBool::new(false),
         is_broken: AtomicBool::new(false),
     };
@@ -281,8 +281,8 @@ pub(crate) struct TurnQueue<T> {
     state: Mutex<TurnQueueState<T>>,
     // The condition on which a thread waits until a number is finished.
     finished: Condvar,
-    // Whether the queue was closed. Set only under the lock.
-    is_closed: AtomicBool,
+    // Whether the queue was closed. `Place::is_last` reads it before it takes the lock, so it may be set without.
+    is_closed: Arc<AtomicBool>,
     // Whether the queue closes when its item breaks.
     closes_when_broken: AtomicBool,
     // Whether `break_queue` closed the queue: its item has failed or was ended, and what is done with it from then on
@@ -337,6 +337,11 @@ impl<T: Drop> TurnQueue<T> {
         self.is_closed.load(Ordering::SeqCst)
     }
 
+    /// Returns the flag that closes the queue once it is set.
+    pub fn closed_flag(&self) -> &Arc<AtomicBool> {
+        &self.is_closed
+    }
+
     /// Makes the queue close when its item breaks.
     pub fn close_when_broken(&self) {
         self.closes_when_broken.store(true, Ordering::SeqCst);
@@ -387,9 +392,7 @@ pub(crate) struct Place<T, R: Wait> {
 impl<T: Drop, R: Wait + Drop> Place<T, R> {
     /// Closes the queue: `issue_unless_closed` issues no more numbers.
     pub fn close_queue(&self) {
-        let state = self.queue.state.lock(&self.rt);
         self.queue.is_closed.store(true, Ordering::SeqCst);
-        drop(state);
     }
 
     /// Returns whether the queue closes when its item breaks.
