@@ -1,10 +1,10 @@
 -- A writer and what waits in front of it, as one sink.
-use Rattle.std.proofs.Common.{◌≡◌, refl, sym, ap, ◌∙◌, subst, ℕ, ◌+◌, ◌-◌, ◌<◌, ◌≤◌, Bool, true, false, List, [], ◌++◌, length, take, drop, length-drop, length-append, Option, Some, None, append-nil, arith}
+use Rattle.std.proofs.Common.{◌≡◌, refl, sym, ap, ◌∙◌, subst, ℕ, ◌+◌, ◌-◌, ◌<◌, ◌≤◌, List, [], ◌++◌, length, take, drop, length-drop, length-append, Some, arith}
 use Rattle.std.proofs.lemmas.List.{take-append-drop, take_all, take-append-le}
 use Rattle.std.proofs.Math.Seq.{take-append-add}
 use Rattle.std.specs.declared.io.ErrorKind.{ErrorKind}
 use Rattle.std.specs.Io.KnownBytes.{append_known}
-use Rattle.tiny_http_io.specs.Device.{Sink, grown, BeginsKnown, IsKnownFront, Took, Failed, next_count}
+use Rattle.tiny_http_io.specs.Device.{Sink, grown, BeginsKnown, Took, Failed, next_count}
 use Rattle.tiny_http_io.proofs.DeviceFeeds.{append_known-append}
 use Rattle.tiny_http_io.proofs.DeviceLemmas.{IsFront-same, Failed-append, Failed-front}
 use Rattle.tiny_http_socket.specs.Corked.{CorkedState, corked_sink, takes_none, taken_by}
