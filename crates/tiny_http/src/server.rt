@@ -199,8 +199,7 @@ impl SslConfig {
 /// 500. The connection of a later request ends with that request; the connection of a queued request ends with its next
 /// request, or when the client closes it. A client that is being accepted at that moment may be turned away.
 ///
-/// The date of a request is read once its head has come with `serve`, and otherwise before the wait for its head, so on
-/// an idle connection that date is older than the request. If the request is dropped, its 500 has this date.
+/// The date of a request is read once its head has come. If the request is dropped, its 500 has this date.
 pub struct Server<R: Net + SocketFiles + Wait + Clock + Drop> {
     pub(crate) rt: R,
     ending: Arc<Ending>,
@@ -208,7 +207,7 @@ pub struct Server<R: Net + SocketFiles + Wait + Clock + Drop> {
     pub(crate) serving: Arc<AtomicBool>,
     pub(crate) messages: Arc<Messages<R>>,
     pub(crate) registry: Arc<ConnectionRegistry>,
-    // Maximum number of workers of a call to `serve`.
+    // Maximum number of workers of a call to `serve`, and of those that read requests for the queue.
     pub(crate) most_workers: usize,
     listening_addr: ListenAddr,
 }
@@ -307,7 +306,7 @@ impl<R: ServerRuntime> Server<R> {
     /// dropped.
     ///
     /// Fails with `Ssl` if there are TLS settings, with `Io` if the socket has no address or the system has no thread
-    /// for the server, and with `Memory` if memory is refused. If it fails, the file of a Unix socket stays.
+    /// or descriptor for the server, and with `Memory` if memory is refused. If it fails, the file of a Unix socket stays.
     pub fn from_listener(
         rt: R,
         alloc: Global,
@@ -502,7 +501,7 @@ impl<R: Net<Listener = TcpListener, Stream = TcpStream> + SocketFiles + Wait + C
 > {
     /// Stops the server, from any thread. No further client is accepted, connections that wait for a head are closed,
     /// and requests in the queue are dropped, so that they get a 500. A connection whose request is answered is closed
-    /// after its response.
+    /// after its response, which says so under `Standard` if it begins after this call.
     ///
     /// The call waits, for at most `time`, until every request that was handed out is answered and every connection is
     /// closed; then each call that waits for a request, and `serve`, returns. A later call waits again for what is

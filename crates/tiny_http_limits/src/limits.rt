@@ -45,9 +45,10 @@ pub struct Limits {
     /// isn't read. A request is open until that request and each one before it are answered or dropped. Values below 2
     /// count as 2.
     pub open_requests: usize,
-    /// Maximum number of threads that a call to `serve` uses for its connections: 1000 by default. A connection that
-    /// waits for its client to send a head takes no thread; one whose handler runs, or that is upgraded, takes one. If
-    /// all threads are busy, further connections wait for one. Values below 1 count as 1.
+    /// Maximum number of threads that a call to `serve` uses for its connections, and of those that read requests for
+    /// `recv`: 1000 by default. A connection that waits for its client to send a head takes no thread; one whose
+    /// handler runs, or that is upgraded, takes one. If all threads are busy, further connections wait for one. Values
+    /// below 1 count as 1.
     pub workers: usize,
 }
 

@@ -4,7 +4,7 @@ ghost use Rattle.tiny_http_socket.specs.Connection.{IsBoundAs, HasAddressOf, IsA
 ghost use Rattle.tiny_http_socket.specs.Connection.{IsCopyOf, ip_of, unix_of};
 
 use std::alloc::{AllocError, Global};
-use std::io::{IoSlice, Read, Write};
+use std::io::{ErrorKind, IoSlice, Read, Write};
 use std::net::{Net, Shutdown, SocketAddr, TcpListener, TcpStream, ToSocketAddrs};
 use std::os::fd::{AsRawFd, RawFd};
 use std::os::unix::fs::FileTypeExt;
@@ -349,14 +349,29 @@ impl ConfigListenAddr {
         ensures { IfOk result (λ listener. IsBoundAs self.now listener) }
     {
         match self {
-            ConfigListenAddr::IP(addrs) => {
-                Ok(Listener::Tcp(TcpListener::bind(rt, addrs.as_slice())?))
-            }
+            ConfigListenAddr::IP(addrs) => Ok(Listener::Tcp(listen(rt, addrs.as_slice())?)),
             ConfigListenAddr::Unix(path) => {
                 Ok(Listener::Unix(SocketFiles::bind_unix(rt, path.as_path())?))
             }
         }
     }
+}
+
+// Listens at the first of these addresses that can be bound. Connections that aren't accepted yet wait in the longest
+// queue that the system allows; that of `std::net` has room for 128.
+fn listen<R: Net>(rt: &R, addrs: &[SocketAddr]) -> io::Result<TcpListener> {
+    let mut fault = io::Error::from(ErrorKind::InvalidInput);
+    for addr in addrs {
+        match mio::net::TcpListener::bind(rt, *addr) {
+            Ok(bound) => {
+                let listener = TcpListener::from(bound);
+                listener.set_nonblocking(false)?;
+                return Ok(listener);
+            }
+            Err(refused) => fault = refused,
+        }
+    }
+    Err(fault)
 }
 
 /// The address at which a server listens.
