@@ -1,9 +1,9 @@
 //! Reads the bodies of requests and sends long bodies, without limits and under `Lenient`, as the Rust crate does. With
 //! `recv` four threads receive requests; with `serve` each connection's worker answers that connection's requests.
 //!
-//! A `PUT` or a `POST` is answered with the length of its body. `GET /identity` sends the bytes that the file had at
-//! the start, from memory, and `GET /chunked` sends them in chunks; `GET /file` and `GET /file/chunked` send the file
-//! itself in these two ways. Any other request is answered with 404.
+//! A `PUT` or a `POST` is answered with the length of its body, and `GET /` with `hello world`. `GET /identity` sends
+//! the bytes that the file had at the start, from memory, and `GET /chunked` sends them in chunks; `GET /file` and
+//! `GET /file/chunked` send the file itself in these two ways. Any other request is answered with 404.
 use crate::BenchFault;
 use std::alloc::{AllocError, Global};
 use std::fs::{File, Files};
@@ -65,7 +65,17 @@ fn answer_length<R: Clock + Wait + Drop>(
         return Err(ErrorKind::UnexpectedEof.into());
     }
     let text = format!(in alloc; "{count}")?;
-    let response = Response::from_string(alloc, text)?;
+    answer_text(rt, alloc, request, text.as_str())
+}
+
+// Answers a request with this text.
+fn answer_text<R: Clock + Wait + Drop>(
+    rt: &R,
+    alloc: Global,
+    request: ServerRequest<R>,
+    text: &str,
+) -> io::Result<()> {
+    let response = Response::from_string(alloc, String::from_str(alloc, text)?)?;
     request.respond(response, current_date(rt))
 }
 
@@ -111,6 +121,7 @@ impl<R: DataFiles + Clock + Wait + Drop> Handler<R, ServerRequest<R>> for Data {
     fn handle(&self, rt: &R, alloc: Global, request: ServerRequest<R>) -> io::Result<()> {
         match (request.method(), request.url()) {
             (Method::Put | Method::Post, _) => answer_length(rt, alloc, request),
+            (Method::Get, "/") => answer_text(rt, alloc, request, "hello world"),
             (Method::Get, "/identity") => self.answer_from_memory(rt, alloc, request, usize::MAX),
             (Method::Get, "/chunked") => self.answer_from_memory(rt, alloc, request, 0),
             (Method::Get, "/file") => self.answer_from_file(rt, alloc, request, usize::MAX),

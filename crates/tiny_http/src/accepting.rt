@@ -78,7 +78,7 @@ pub(crate) fn drop_waiting<R: Wait + Clock + Drop>(
     }
 }
 
-/// What the clients of a server share while their requests are put into the server's queue.
+/// The queue of a server, for the threads that add to it.
 #[derive(Drop)]
 pub(crate) struct Queuing<R: Wait + Clock + Drop> {
     pub messages: Arc<Messages<R>>,
@@ -87,14 +87,21 @@ pub(crate) struct Queuing<R: Wait + Clock + Drop> {
     pub serving: Arc<AtomicBool>,
 }
 
-impl<R: Wait + Clock + Drop> Handler<R, ServerRequest<R>> for Queuing<R> {
-    /// Puts the request into the queue, or drops it if the queue has no room. Once the server has been closed, nothing
-    /// takes requests from the queue, so a thread that adds one then empties the queue.
-    fn handle(&self, rt: &R, _alloc: Global, request: ServerRequest<R>) -> io::Result<()> {
-        let _ = self.messages.push(rt, Message::NewRequest(request));
+impl<R: Wait + Clock + Drop> Queuing<R> {
+    // Puts a message into the queue, or drops it if the queue has no room. Once the server has been closed, nothing
+    // takes messages from the queue, so a thread that adds one then empties the queue.
+    fn push(&self, rt: &R, message: Message<R>) {
+        let _ = self.messages.push(rt, message);
         if self.ending.is_closed() {
             drop_waiting(rt, &self.messages, &self.ending);
         }
+    }
+}
+
+impl<R: Wait + Clock + Drop> Handler<R, ServerRequest<R>> for Queuing<R> {
+    /// Puts the request into the queue.
+    fn handle(&self, rt: &R, _alloc: Global, request: ServerRequest<R>) -> io::Result<()> {
+        self.push(rt, Message::NewRequest(request));
         Ok(())
     }
 }
@@ -111,21 +118,20 @@ pub(crate) struct Reading<R: Wait + Clock + Drop> {
 
 impl<R: Wait + Clock + Copy> Task for Reading<R> {
     /// Puts the requests that have come into the queue, and after the last closes the connection. If the server serves
-    /// with a handler by then, puts the client itself into the queue, to be served.
+    /// with a handler by then, and bytes of a head have come, puts the client itself into the queue, to be served.
     fn run(&mut self, is_late: bool) -> Progress {
-        let Queuing {
-            messages,
-            ending,
-            serving,
-        } = &*self.queuing;
-        let moves = !is_late && serving.load(Ordering::SeqCst);
-        if moves && let Some(arrival) = self.arrival.take_if(|arrival| arrival.is_open()) {
+        let queuing = &*self.queuing;
+        let may_move = !is_late
+            && queuing.serving.load(Ordering::SeqCst)
+            && !queuing.ending.is_closed();
+        if may_move && let Some(arrival) = self.arrival.take_if(|arrival| arrival.has_come()) {
+            // Another connection may soon have the same descriptor, but none comes here any more.
             let socket = arrival.socket();
-            arrival.put(&self.rt, messages, ending);
+            queuing.push(&self.rt, Message::NewClient(arrival));
             return Progress::Left(socket);
         }
         match &mut self.arrival {
-            Some(arrival) => arrival.answer_by(self.alloc, &*self.queuing, is_late),
+            Some(arrival) => arrival.answer_by(self.alloc, queuing, is_late),
             None => Progress::Over,
         }
     }
@@ -139,7 +145,6 @@ pub(crate) struct Accepting<R: Wait + Clock + Drop> {
     pub profile: Profile,
     pub limits: Option<Limits>,
     pub listener: Listener,
-    pub ending: Arc<Ending>,
     pub queuing: Arc<Queuing<R>>,
     pub registry: Arc<ConnectionRegistry>,
     pub crew: Arc<Crew<Reading<R>>>,
@@ -150,7 +155,7 @@ impl<R: Wait + Clock + Copy> Accepting<R> {
     /// queue.
     pub fn run(self) {
         self.accept_all();
-        self.ending.end_accepting();
+        self.queuing.ending.end_accepting();
         self.crew.close(&self.rt);
     }
 
@@ -158,12 +163,12 @@ impl<R: Wait + Clock + Copy> Accepting<R> {
     fn accept_all(&self) {
         let mut backoff = Backoff::new();
         for _ in self.rt.forever() {
-            self.registry.wait_for_place(&self.rt, &self.ending);
-            if self.ending.is_closed() {
+            self.registry.wait_for_place(&self.rt, &self.queuing.ending);
+            if self.queuing.ending.is_closed() {
                 return;
             }
             let accepted = self.listener.accept();
-            if self.ending.is_closed() {
+            if self.queuing.ending.is_closed() {
                 return;
             }
             match accepted {
@@ -192,7 +197,7 @@ impl<R: Wait + Clock + Copy> Accepting<R> {
         let (rt, alloc) = (self.rt, self.alloc);
         let mut arrival = Arrival::new(client);
         if self.queuing.serving.load(Ordering::SeqCst) {
-            arrival.put(&rt, &self.queuing.messages, &self.ending);
+            self.queuing.push(&rt, Message::NewClient(arrival));
             return;
         }
         let Ok(queuing) = Arc::try_clone(&self.queuing) else {
@@ -215,7 +220,7 @@ impl<R: Wait + Clock + Copy> Accepting<R> {
         let (rt, alloc) = (self.rt, self.alloc);
         let (reader, writer) = RefinedTcpStream::new(alloc, connection).ok()?;
         let socket = Arc::try_clone(reader.connection()).ok()?;
-        let ending = Arc::try_clone(&self.ending).ok()?;
+        let ending = Arc::try_clone(&self.queuing.ending).ok()?;
         let upgraded = Arc::try_clone(self.registry.upgraded()).ok()?;
         let shared = SharedState::new(alloc, self.limits, upgraded).ok()?;
         let secure = reader.secure();
@@ -279,7 +284,7 @@ impl<R: Wait + Clock + Copy> Accepting<R> {
             closed_flag: Arc::try_clone(closed_flag).ok()?,
         };
         let guard = ConnectionGuard::enter(self.rt, &self.registry, remote_addr, handle)?;
-        if self.ending.is_closed() {
+        if self.queuing.ending.is_closed() {
             return None;
         }
         Some(guard)

@@ -1,6 +1,4 @@
-//! The clients of a server, and what is done for each: its requests are put into the server's queue, or handed to a
-//! handler one after another.
-use crate::accepting::{Message, Messages, drop_waiting};
+//! The clients of a server, whose requests are handed to a handler one after another.
 use crate::closing::Draining;
 use crate::crew::Progress;
 use crate::ending::Ending;
@@ -87,8 +85,10 @@ impl<R: Wait + Clock + Copy> Client<R> {
         None
     }
 
-    // Returns what has come of the next head. Reads ahead if more may have come.
+    // Returns what has come of the next head, once the last request's body is read or given up. Reads ahead if more may
+    // have come.
     fn readiness(&mut self) -> Readiness {
+        self.connection.wait_for_input();
         let readiness = self.connection.readiness();
         if readiness == Readiness::Ready || self.connection.is_drained() {
             return readiness;
@@ -154,15 +154,6 @@ impl<R: Wait + Clock + Copy> Arrival<R> {
         }
     }
 
-    /// Puts the client into the queue. Once the server has been closed, nothing takes a client from the queue, so this
-    /// call then empties it.
-    pub fn put(self, rt: &R, messages: &Messages<R>, ending: &Ending) {
-        let _ = messages.push(rt, Message::NewClient(self));
-        if ending.is_closed() {
-            drop_waiting(rt, messages, ending);
-        }
-    }
-
     /// Returns the client's socket.
     pub fn socket(&self) -> RawFd {
         self.client.socket.as_raw_fd()
@@ -178,19 +169,24 @@ impl<R: Wait + Clock + Copy> Arrival<R> {
     /// Begins the wait for the client's next head, or goes on with it. Returns the time until which the client may send
     /// nothing, or `None` if it is to be served at once.
     pub fn begin(&mut self) -> Option<Duration> {
-        let has_come = match &self.stage {
-            Stage::Head(_) => Readiness::Part,
-            _ => Readiness::Idle,
-        };
-        match self.wait(has_come) {
+        let readiness = self.client.connection.readiness();
+        if readiness == Readiness::Ready {
+            return None;
+        }
+        match self.wait(readiness) {
             Progress::Waits(until) => Some(until),
             Progress::Over | Progress::Left(_) => None,
         }
     }
 
-    /// Returns whether the client's connection isn't being closed.
-    pub fn is_open(&self) -> bool {
-        !matches!(self.stage, Stage::Draining(_))
+    /// Reads ahead what the client has sent, and returns whether bytes of a head have come. Returns false once the
+    /// connection is being closed.
+    pub fn has_come(&mut self) -> bool {
+        if matches!(self.stage, Stage::Draining(_)) {
+            return false;
+        }
+        let _ = self.client.connection.read_ahead();
+        self.client.connection.readiness() != Readiness::Idle
     }
 
     /// Hands the client's requests to a handler as long as they come, and then waits for the next one. After the last

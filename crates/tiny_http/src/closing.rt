@@ -30,8 +30,8 @@ pub(crate) struct Draining {
 }
 
 impl Draining {
-    /// Shuts down writing, and makes reads of the socket not wait. Returns `None` if their timeout can't be set; nothing
-    /// is discarded then.
+    /// Shuts down writing, and makes reads of the socket not wait. Returns `None` if their timeout can't be set;
+    /// nothing is discarded then.
     pub fn begin<R: Clock>(rt: &R, socket: &Connection) -> Option<Draining> {
         let begun = time_of(rt);
         let _ = socket.shutdown(Shutdown::Write);

@@ -159,8 +159,8 @@ impl<T: Drop> CrewState<T> {
     }
 }
 
-/// The workers of a server or of a call to `serve`, and the tasks on which they work. They end once the crew has been closed and every
-/// task is over.
+/// The workers of a server or of a call to `serve`, and the tasks on which they work. They end once the crew has been
+/// closed and every task is over.
 #[derive(Drop)]
 pub(crate) struct Crew<T> {
     state: Mutex<CrewState<T>>,

@@ -144,15 +144,17 @@ impl ConnectionRegistry {
         self.changed.notify_all();
     }
 
-    /// Makes each connection read no further head. Ends the connections that wait for one; in the others the last
-    /// response says that the connection closes.
+    /// Makes each connection read no further head, and ends the connections that wait for one. If a request is open,
+    /// the connection's last response says under `Standard` that it closes.
     pub fn stop<R: Wait>(&self, rt: &R) {
         let connections = self.connections.lock(rt);
         for entry in connections.table.entries() {
             let handle = entry.item();
-            if handle.shared.stop() {
+            let has_waited = handle.shared.stop();
+            if has_waited {
                 let _ = handle.socket.shutdown(Shutdown::Read);
-            } else {
+            }
+            if !has_waited || handle.shared.has_open() {
                 handle.closed_flag.store(true, Ordering::SeqCst);
             }
         }

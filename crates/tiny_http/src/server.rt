@@ -3,7 +3,7 @@ ghost use Rattle.std.specs.Prelude.{◌≡◌, Err, IsSome, IsErr};
 ghost use Rattle.httpdate.specs.Date.{unix_secs};
 ghost use Rattle.tiny_http.specs.Clock.{seconds_of};
 
-use crate::accepting::{Accepting, Message, Messages, Queuing};
+use crate::accepting::{Accepting, Message, Messages, Queuing, drop_waiting};
 use crate::crew::Crew;
 use crate::ending::Ending;
 use crate::registry::{ConnectionRegistry, time_of};
@@ -99,7 +99,7 @@ pub enum Stopped {
 #[derive(Debug, Drop, Error)]
 pub enum ServerError {
     /// The server can't listen on the address, the host's name isn't found, the text isn't an address, the socket has
-    /// no address, or the system has no thread for the server.
+    /// no address, or the system has no thread or descriptor for the server.
     #[error("{0}")]
     Io(io::Error),
     /// TLS was requested, which isn't implemented.
@@ -306,7 +306,8 @@ impl<R: ServerRuntime> Server<R> {
     /// dropped.
     ///
     /// Fails with `Ssl` if there are TLS settings, with `Io` if the socket has no address or the system has no thread
-    /// or descriptor for the server, and with `Memory` if memory is refused. If it fails, the file of a Unix socket stays.
+    /// or descriptor for the server, and with `Memory` if memory is refused. If it fails, the file of a Unix socket
+    /// stays.
     pub fn from_listener(
         rt: R,
         alloc: Global,
@@ -394,7 +395,6 @@ impl<R: ServerRuntime> Server<R> {
             profile,
             limits,
             listener,
-            ending: Arc::try_clone(&ending)?,
             queuing,
             registry: Arc::try_clone(&registry)?,
             crew: Arc::try_clone(&crew)?,
@@ -449,8 +449,9 @@ impl<R: Net + SocketFiles + Wait + Clock + Drop> Server<R> {
     /// `unblock` was called. After an accept error no further client is accepted, and requests come only from clients
     /// that were accepted before.
     ///
-    /// Once the server serves with a handler, `recv` returns only requests that were read before that. If a client
-    /// waits for the next call to `serve`, `recv` fails at once with kind `Other`, as if `unblock` had been called.
+    /// Once the server serves with a handler, `recv` returns only requests that were read before that, or came in one
+    /// piece with one that was. If a client waits for the next call to `serve`, `recv` fails at once with kind `Other`,
+    /// as if `unblock` had been called.
     ///
     /// Once the server has been stopped, each call fails with kind `Other`. A server with limits doesn't hand out a
     /// request if an earlier response on its connection broke off or ended the output: the response to the request
@@ -500,8 +501,8 @@ impl<R: Net<Listener = TcpListener, Stream = TcpStream> + SocketFiles + Wait + C
     R,
 > {
     /// Stops the server, from any thread. No further client is accepted, connections that wait for a head are closed,
-    /// and requests in the queue are dropped, so that they get a 500. A connection whose request is answered is closed
-    /// after its response, which says so under `Standard` if it begins after this call.
+    /// and requests in the queue are dropped, so that they get a 500. A connection with an open request is closed after
+    /// its last response, which says so under `Standard` unless it had begun.
     ///
     /// The call waits, for at most `time`, until every request that was handed out is answered and every connection is
     /// closed; then each call that waits for a request, and `serve`, returns. A later call waits again for what is
@@ -509,8 +510,9 @@ impl<R: Net<Listener = TcpListener, Stream = TcpStream> + SocketFiles + Wait + C
     /// time. The call takes longer if a client doesn't read a 500 that the call sends.
     pub fn stop(&self, time: Duration) -> Stopped {
         let begun = time_of(&self.rt);
-        self.close_down();
+        self.end_accepting();
         self.registry.stop(&self.rt);
+        drop_waiting(&self.rt, &self.messages, &self.ending);
         let is_empty = self.registry.wait_until_empty(&self.rt, begun, time);
         if !self.ending.has_accepted_all() {
             // There may have been no descriptor for this connection before.
@@ -544,9 +546,9 @@ impl<R: Net + SocketFiles + Wait + Clock + Drop> Server<R> {
 }
 
 impl<R: Net + SocketFiles + Wait + Clock + Drop> Server<R> {
-    // Ends accepting, for which the server connects to itself once, drops the requests in the queue, and removes the
-    // file of a Unix socket. A second call does nothing.
-    fn close_down(&self) {
+    // Ends accepting, for which the server connects to itself once, and removes the file of a Unix socket. A second
+    // call does nothing.
+    fn end_accepting(&self) {
         if !self.ending.close() {
             return;
         }
@@ -558,7 +560,6 @@ impl<R: Net + SocketFiles + Wait + Clock + Drop> Server<R> {
         {
             let _ = rt.remove_socket(path);
         }
-        self.messages.clear(rt);
     }
 
     // Connects to the server's own address, so that the accepting thread wakes.
@@ -583,7 +584,8 @@ impl<R: Net + SocketFiles + Wait + Clock + Drop> Drop for Server<R> {
     /// Ends accepting, for which the server connects to itself once, drops the requests in the queue, and removes the
     /// file of a Unix socket.
     fn drop(self) {
-        self.close_down();
+        self.end_accepting();
+        drop_waiting(&self.rt, &self.messages, &self.ending);
         let Server {
             rt: _,
             ending: _,

@@ -246,7 +246,7 @@ impl<R: ReadDevice + Drop, W: WriteDevice + Drop, Rt: Wait + Copy> ClientConnect
     }
 
     /// Returns the flag that ends the requests once it is set, as a response made with `with_close` does: no further
-    /// request is handed out, and a response that hasn't begun says so if it is the last.
+    /// request is handed out, and under `Standard` a response that hasn't begun says so if it is the last.
     pub fn closed_flag(&self) -> &Arc<AtomicBool> {
         self.sink.closed_flag()
     }
@@ -382,9 +382,9 @@ impl<R: ReadDevice + Drop, W: WriteDevice + Drop, Rt: Wait + Copy> ClientConnect
 /// What has come of a connection's next head.
 #[derive(Clone, Copy, Debug, PartialEq, Eq)]
 pub enum Readiness {
-    /// The whole head, or `next` returns without one. It may still wait: for a request that is kept or that reads the
-    /// input, for the rest of a head of more than 16,384 bytes, and for the next head after one that is refused with
-    /// 505.
+    /// The whole head, or `next` returns without one. It may still wait: for a request that has the input, and for the
+    /// head after that; for the rest of a head of more than 16,384 bytes; and for the next head after one that is
+    /// refused with 505.
     Ready,
     /// A part of the head.
     Part,
@@ -412,6 +412,15 @@ impl<R: ReadAheadDevice + Drop, W: WriteDevice + Drop, Rt: Wait + Copy> ClientCo
             Ok(n) if ends_no_line(source, n) => Readiness::Part,
             Err(fault) if fault.kind() != ErrorKind::WouldBlock => Readiness::Ready,
             _ => readiness_of(alloc, source, profile),
+        }
+    }
+
+    /// Waits until the input isn't with a request: until that request's body is read or given up.
+    pub fn wait_for_input(&mut self) {
+        if !self.sink.is_closed()
+            && let Some(next_head) = self.next_head.take()
+        {
+            self.next_head = Some(NextHead::Here(next_head.hold()));
         }
     }
 
@@ -466,10 +475,11 @@ const HEAD_END: &[u8] = b"\r\n\r\n";
 // The first bytes of a head that mostly has no body.
 const PLAIN_START: &[u8] = b"GET ";
 
-// The headers of a head that has one.
+// The headers that announce a body.
 const BODY_HEADERS: [&[u8]; 2] = [b"Content-Length", b"Transfer-Encoding"];
 
-// Returns whether these bytes begin with a whole `GET` head that names no body, so that it needn't be read to know.
+// Returns whether these bytes begin with the whole head of a `GET` that announces no body. Then the head needn't be
+// read to know that it is whole.
 fn begins_plainly(bytes: &[u8]) -> bool {
     if !bytes.starts_with(PLAIN_START) {
         return false;
@@ -479,11 +489,11 @@ fn begins_plainly(bytes: &[u8]) -> bool {
     };
     !bytes[..end]
         .split(|byte| *byte == b'\n')
-        .any(|line| names_body(line))
+        .any(|line| announces_body(line))
 }
 
-// Returns whether a line of a head begins with the name of a header that says how long the body is.
-fn names_body(line: &[u8]) -> bool {
+// Returns whether a line of a head begins with the name of a header that announces a body.
+fn announces_body(line: &[u8]) -> bool {
     BODY_HEADERS.iter().any(|name| {
         line.get(..name.len())
             .is_some_and(|start| start.eq_ignore_ascii_case(name))
