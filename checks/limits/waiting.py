@@ -57,7 +57,7 @@ class Good(threading.Thread):
             begun = time.monotonic()
             with connect(0) as sock:
                 sock.sendall(HEAD)
-                if not answer(sock).startswith(b"HTTP/1.1 404"):
+                if not answer(sock).startswith(b"HTTP/1.1 200"):
                     self.bad += 1
             self.longest = max(self.longest, time.monotonic() - begun)
             self.count += 1
@@ -103,7 +103,7 @@ def main():
                 sock.sendall(HEAD[-1:])
             for sock in idle:
                 sock.sendall(HEAD)
-            served = sum(answer(sock).startswith(b"HTTP/1.1 404") for sock in slow + idle)
+            served = sum(answer(sock).startswith(b"HTTP/1.1 200") for sock in slow + idle)
             report("slow and idle clients are answered", served == slow_count + idle_count, served)
         finally:
             server.kill()
