@@ -75,8 +75,25 @@ const SHORT: usize = 256;
 
 const SMALL: usize = 1024;
 
-// The buffer size for data that fill it. Each piece then takes one read, and on a socket one write.
+// The buffer size for data that fill it. A piece then mostly takes one read, and on a socket one write.
 const LARGE: usize = 65_536;
+
+// Writes the first `n` bytes of the data through a large buffer, in a stack frame of its own: shorter data needn't pay
+// for it.
+#[inline(never)]
+fn put_large<D: ReadDevice, W: WriteDevice>(
+    source: &mut D,
+    writer: &mut W,
+    n: usize,
+) -> Result<(), io::Error>
+    ensures text { IfSome (D.feed source.old)
+        (λ feed. Prints (W.sink writer.old) (W.sink writer.new) result (identity_body n feed)) }
+    ensures takes { IfSome (D.feed source.old) (λ feed. TakesUpTo n feed (D.feed source.new) result) }
+    ensures uses { CountsFaults (W.sink writer.old) (W.sink writer.new) result }
+    ensures stop_count { D.stop_count source.new ≤ D.stop_count source.old + fault_count result }
+{
+    put_through(source, writer, &mut [0u8; LARGE], n)
+}
 
 /// Writes the first `n` bytes of the data, as they arrive. Fails with `UnexpectedEof` if the data end after fewer than
 /// `n` bytes, or with the first fault of the data or the writer. After a failure nothing more is written.
@@ -102,5 +119,5 @@ pub fn put_exactly<D: ReadDevice, W: WriteDevice>(
     if n < LARGE {
         return put_through(source, writer, &mut [0u8; PIECE], n);
     }
-    put_through(source, writer, &mut [0u8; LARGE], n)
+    put_large(source, writer, n)
 }

@@ -289,8 +289,7 @@ impl<R: ReadAheadDevice + Drop, Rt: Clock> ReadDevice for TimedReader<R, Rt> {
 }
 
 impl<R: ReadAheadDevice + Drop, Rt: Clock> ReadAheadDevice for TimedReader<R, Rt> {
-    /// Returns what was read ahead. It is drained if the last read of the socket returned fewer bytes than it asked
-    /// for, or failed.
+    /// Returns what was read ahead.
     fn ahead(&self) -> Ahead<'_> {
         self.inner.ahead()
     }

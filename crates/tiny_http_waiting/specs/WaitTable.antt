@@ -9,7 +9,7 @@ use Rattle.tiny_http_waiting.specs.declared.wait_table.Slot.{Slot}
 use Rattle.tiny_http_waiting.specs.declared.wait_table.Slot.TheVariants.{Free, Waiting, Served}
 
 -- The parts of a `WaitTable` that contracts refer to: the state of each token, from token 0 on; and a time before which
--- no wait ends, or `None` if no connection waits.
+-- no wait ends, or `None`, but only if no connection waits.
 pub record Waits (T : Type 0) : Type 0 where
   pub slots : List (Slot T)
   pub earliest : Option Duration

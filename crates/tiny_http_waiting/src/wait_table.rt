@@ -79,7 +79,7 @@ pub struct WaitTable<T> {
     slots: Vec<Slot<T>>,
     // Tokens that have become free. Each is checked before it is used again.
     free: Vec<usize>,
-    // A time at or before the end of each wait. `None` if no connection waits.
+    // A time at or before the end of each wait. `None` only if no connection waits.
     earliest: Option<Duration>,
 }
 
