@@ -144,6 +144,15 @@ def few_descriptors(program):
     report('few descriptors', newcomer and faults > 0, seen)
 
 
+def allowed_too_many(program):
+    """A server that is allowed more connections than the process may open descriptors says so at its start."""
+    limit = lambda: resource.setrlimit(resource.RLIMIT_NOFILE, (1024, 1024))
+    words = [program, '--connections', '5000', '127.0.0.1:0']
+    ran = subprocess.run(words, capture_output=True, stdin=subprocess.DEVNULL, timeout=20, preexec_fn=limit, text=True)
+    ok = ran.returncode == 1 and '5000 connections' in ran.stderr and 'ulimit -n' in ran.stderr
+    report('allowed too many', ok, f'status {ran.returncode}; {ran.stderr.strip()}')
+
+
 def long_head(server):
     before = server.memory()
     client = server.connect()
@@ -242,6 +251,8 @@ def main():
             trial(server)
     if not names or 'few_descriptors' in names:
         few_descriptors(program)
+    if not names or 'allowed_too_many' in names:
+        allowed_too_many(program)
     time.sleep(12)
     now, held = server.descriptors(), server.memory()
     report('afterwards', now <= descriptors and held < memory + 32, f'{now} descriptors of {descriptors}, {held:.1f} MB of {memory:.1f}')

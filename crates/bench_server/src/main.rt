@@ -1,8 +1,8 @@
 //! The server for benchmarks, and for trials by hand on an open port.
 //!
-//! `bench_server [--lenient|--strict|--standard] ADDRESS` answers every request with `hello world`, through a handler:
-//! each connection's worker answers that connection's requests. Requests are read under the named profile, by default
-//! `Standard`, and clients have the default limits. Once a minute, and when it stops, the server prints its counts; it
+//! `bench_server [--lenient|--strict|--standard] [--connections N] ADDRESS` answers every request with `hello world`,
+//! through a handler. Requests are read under the named profile, by default `Standard`, and clients have the default
+//! limits, but at most N connections, by default 1,000, which may all have one address. Once a minute, and when it stops, the server prints its counts; it
 //! keeps serving if nobody reads them. A line `stop` on standard input stops it; it waits at most 10 seconds for open
 //! requests and connections.
 //!
@@ -44,7 +44,7 @@ const PRINT_TENTHS: u32 = 30;
 #[derive(Debug, Drop, Error)]
 pub enum BenchFault {
     /// The arguments don't match the usage.
-    #[error("usage: bench_server [--lenient|--strict|--standard] ADDRESS | --bodies recv|serve ADDRESS FILE")]
+    #[error("usage: bench_server [--lenient|--strict|--standard] [--connections N] ADDRESS | --bodies recv|serve ADDRESS FILE")]
     Usage,
     /// The server can't listen on the address.
     #[error("cannot listen: {0}")]
@@ -110,16 +110,39 @@ fn profile_of(word: &str) -> Option<Profile> {
     }
 }
 
-// Parses the arguments: the profile, by default `Standard`, and the address.
-fn asked(words: &[String]) -> Result<(Profile, &str), BenchFault> {
-    match words {
-        [address] => Ok((Profile::Standard, address.as_str())),
-        [word, address] => match profile_of(word.as_str()) {
-            Some(profile) => Ok((profile, address.as_str())),
-            None => Err(BenchFault::Usage),
-        },
-        _ => Err(BenchFault::Usage),
+// What the arguments say.
+#[derive(Clone, Copy)]
+struct Options<'a> {
+    profile: Profile,
+    limits: Limits,
+    address: &'a str,
+}
+
+// Parses the arguments: the profile, by default `Standard`, the limit of connections, and the address.
+fn asked(words: &[String]) -> Result<Options<'_>, BenchFault> {
+    let Some((address, words)) = words.split_last() else {
+        return Err(BenchFault::Usage);
+    };
+    let mut options = Options {
+        profile: Profile::Standard,
+        limits: Limits::new(),
+        address: address.as_str(),
+    };
+    let mut words = words.iter();
+    for _ in 0..words.len() {
+        let Some(word) = words.next() else { break };
+        if let Some(profile) = profile_of(word.as_str()) {
+            options.profile = profile;
+        } else if word.as_str() == "--connections" {
+            let most = words.next().and_then(|most| most.as_str().parse().ok());
+            let most: usize = most.ok_or(BenchFault::Usage)?;
+            options.limits.connections = most;
+            options.limits.connections_of_address = most;
+        } else {
+            return Err(BenchFault::Usage);
+        }
     }
+    Ok(options)
 }
 
 // Creates a server that listens on the address in the arguments, under the profile that they name.
@@ -128,10 +151,12 @@ fn listen<R: ServerRuntime>(
     alloc: Global,
     words: &[String],
 ) -> Result<Arc<Server<R>>, BenchFault> {
-    let (profile, address) = asked(words)?;
-    let addr = ConfigListenAddr::from_socket_addrs(&rt, alloc, address).map_err(ServerError::from)?;
+    let options = asked(words)?;
+    let addr = ConfigListenAddr::from_socket_addrs(&rt, alloc, options.address).map_err(
+        ServerError::from,
+    )?;
     let config = ServerConfig { addr, ssl: None };
-    let server = Server::with(rt, alloc, config, profile, Limits::new())?;
+    let server = Server::with(rt, alloc, config, options.profile, options.limits)?;
     Ok(Arc::new(alloc, server).map_err(|_| AllocError)?)
 }
 

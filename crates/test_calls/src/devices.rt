@@ -149,13 +149,18 @@ impl Write for Taker {
 /// The writer of an outlet or a stream.
 pub type Below = Metered<Taker>;
 
-// Maximum number of bytes that a response reads from its data at a time.
-const PIECE: u64 = 65_536;
+// Maximum number of bytes that a response reads at a time from data of fewer than `LARGE_PIECE` bytes.
+const PIECE: u64 = 8_192;
+
+// Maximum number of bytes that a response reads at a time from its data.
+const LARGE_PIECE: u64 = 65_536;
 
 /// The data of a response, which record how much of them is read.
 #[derive(Drop)]
 pub struct Watched {
     inner: Canned,
+    // Maximum number of bytes that count as a piece.
+    piece: u64,
     calls: u64,
     taken: u64,
 }
@@ -167,18 +172,21 @@ impl Watched {
         bytes: &[u8],
         fault: Option<ErrorKind>,
     ) -> Result<Watched, AllocError> {
+        let is_large = bytes.len() as u64 >= LARGE_PIECE;
         Ok(Watched {
             inner: Canned::new(bytes.to_vec(alloc)?, fault),
+            piece: if is_large { LARGE_PIECE } else { PIECE },
             calls: 0,
             taken: 0,
         })
     }
 
-    /// Returns how much was read: `nothing` if no read was made, `a piece` if at most 65,536 bytes were read, or `more`.
+    /// Returns how much was read: `nothing` if no read was made, `a piece` if at most 8,192 bytes were read, or 65,536
+    /// of data that have as many, or `more`.
     pub fn reads(&self) -> &'static str {
         if self.calls == 0 {
             "nothing"
-        } else if self.taken <= PIECE {
+        } else if self.taken <= self.piece {
             "a piece"
         } else {
             "more"

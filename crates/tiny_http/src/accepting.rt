@@ -65,35 +65,31 @@ impl<R: Wait + Clock + Drop> Message<R> {
 /// The queue of a server.
 pub(crate) type Messages<R> = MessagesQueue<Message<R>>;
 
-// Empties the queue of a closed server. Once the server has been stopped, also leaves an unblock mark in the queue, so
-// that each waiting call returns.
-pub(crate) fn drop_waiting<R: Wait + Clock + Drop>(
-    rt: &R,
-    messages: &Messages<R>,
-    ending: &Ending,
-) {
-    messages.clear(rt);
-    if ending.has_stopped() {
-        let _ = messages.unblock(rt);
-    }
-}
-
-/// The queue of a server, for the threads that add to it.
+/// The queue of a server, which the server shares with the threads that add to the queue.
 #[derive(Drop)]
 pub(crate) struct Queuing<R: Wait + Clock + Drop> {
     pub messages: Arc<Messages<R>>,
     pub ending: Arc<Ending>,
     // Set once the server serves with a handler.
-    pub serving: Arc<AtomicBool>,
+    pub serving: AtomicBool,
 }
 
 impl<R: Wait + Clock + Drop> Queuing<R> {
+    /// Empties the queue of a closed server. Once the server has been stopped, also leaves an unblock mark in the
+    /// queue, so that each waiting call returns.
+    pub fn drop_waiting(&self, rt: &R) {
+        self.messages.clear(rt);
+        if self.ending.has_stopped() {
+            let _ = self.messages.unblock(rt);
+        }
+    }
+
     // Puts a message into the queue, or drops it if the queue has no room. Once the server has been closed, nothing
     // takes messages from the queue, so a thread that adds one then empties the queue.
     fn push(&self, rt: &R, message: Message<R>) {
         let _ = self.messages.push(rt, message);
         if self.ending.is_closed() {
-            drop_waiting(rt, &self.messages, &self.ending);
+            self.drop_waiting(rt);
         }
     }
 }

@@ -8,6 +8,7 @@ use crate::serving::Handler;
 use std::alloc::Global;
 use std::mem;
 use std::os::fd::{AsRawFd, RawFd};
+use std::sync::atomic::Ordering;
 use std::sync::{Arc, Wait};
 use std::time::{Clock, Duration};
 use tiny_http_limits::counts::Closing;
@@ -48,8 +49,8 @@ impl<R: Wait + Clock + Copy> Client<R> {
         self.shared.limits().is_some()
     }
 
-    // Hands the next request to a handler. Returns false if there is none, or if the server has been closed: the
-    // request is dropped then, and no further one is handed out.
+    // Hands the next request to a handler. Returns false if there is none, or if the server was dropped: the request is
+    // dropped then. If the server is being stopped, the request is the last.
     fn answer_next<H: Handler<R, ServerRequest<R>>>(&mut self, alloc: Global, handler: &H) -> bool {
         let rt = self.rt;
         let now = current_date(&rt);
@@ -58,7 +59,10 @@ impl<R: Wait + Clock + Copy> Client<R> {
             return false;
         };
         if self.ending.is_closed() {
-            return false;
+            if !self.ending.is_stopping() {
+                return false;
+            }
+            self.connection.closed_flag().store(true, Ordering::SeqCst);
         }
         self.cork.send_unless_leaving();
         let _ = handler.handle(&rt, alloc, request);
@@ -191,7 +195,7 @@ impl<R: Wait + Clock + Copy> Arrival<R> {
 
     /// Hands the client's requests to a handler as long as they come, and then waits for the next one. After the last
     /// waits until all are answered, and closes the connection. `is_late` tells that the wait is over without an event.
-    /// Once the server has been closed, the next request is dropped and is the last.
+    /// Once the server was dropped, the next request is dropped and is the last.
     pub fn answer_by<H: Handler<R, ServerRequest<R>>>(
         &mut self,
         alloc: Global,

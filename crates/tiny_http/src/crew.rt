@@ -1,9 +1,9 @@
 //! The workers that read or serve a server's connections. A connection that waits for its client takes no worker.
 //!
 //! One worker at a time waits at the `Poll` for events. It serves the first connection that is ready itself, and wakes
-//! idle workers for the others. While it serves, nobody may wait at the `Poll`: if that lasts, the watcher wakes or
-//! starts another worker. So a quick handler costs no switch of threads, and a slow one delays the others' connections
-//! by some milliseconds.
+//! an idle worker for the others, which wakes the next one. While all serve, nobody waits at the `Poll`: if that lasts,
+//! the watcher wakes or starts another worker. So a quick handler costs few switches of threads, and a slow one delays
+//! the others' connections by some milliseconds.
 use crate::registry::time_of;
 use mio::unix::SourceFd;
 use mio::{Events, Interest, Poll, Registry, Token, Waker};
@@ -73,6 +73,8 @@ struct CrewState<T> {
     polls_until: Duration,
     running: usize,
     idle: usize,
+    // Whether an idle worker was woken and hasn't come back yet.
+    is_waking: bool,
     // How often a worker has taken a task or the poller.
     turns: u64,
     watcher_rests: bool,
@@ -172,18 +174,27 @@ pub(crate) struct Crew<T> {
 }
 
 impl<T: Task + Drop> Crew<T> {
-    // Wakes workers for this number of ready tasks: idle ones, or, if there are none, the one that waits for events.
-    // Wakes the watcher if it rests.
-    fn wake_for(&self, state: &mut CrewState<T>, tasks: usize) {
-        for _ in 0..tasks.min(state.idle) {
-            self.worker_woken.notify_one();
-        }
-        if tasks > 0 && state.idle == 0 && state.poller.is_none() {
-            let _ = self.waker.wake();
+    // Wakes a worker if tasks are ready: an idle one, which wakes the next, or, if there is none, the one that waits for
+    // events. Wakes the watcher if it rests.
+    fn wake(&self, state: &mut CrewState<T>) {
+        if !state.ready.is_empty() {
+            if state.idle == 0 {
+                self.wake_poller(state);
+            } else if !state.is_waking {
+                state.is_waking = true;
+                self.worker_woken.notify_one();
+            }
         }
         if state.watcher_rests {
             state.watcher_rests = false;
             self.watcher_woken.notify_one();
+        }
+    }
+
+    // Wakes the worker that waits for events, if there is one.
+    fn wake_poller(&self, state: &CrewState<T>) {
+        if state.poller.is_none() {
+            let _ = self.waker.wake();
         }
     }
 
@@ -194,8 +205,7 @@ impl<T: Task + Drop> Crew<T> {
             if let Some(turn) = state.ready.pop_front() {
                 state.turns = state.turns.wrapping_add(1);
                 let ended = state.take_ended(turn.token);
-                let others = state.ready.len();
-                self.wake_for(&mut state, others);
+                self.wake(&mut state);
                 drop(state);
                 state = self.run(rt, turn, ended);
             } else if state.is_over() {
@@ -254,8 +264,8 @@ impl<T: Task + Drop> Crew<T> {
 
     // Wakes the worker that waits for events, if it would wait for longer than until this time.
     fn poll_until(&self, state: &CrewState<T>, until: Duration) {
-        if state.poller.is_none() && until < state.polls_until {
-            let _ = self.waker.wake();
+        if until < state.polls_until {
+            self.wake_poller(state);
         }
     }
 
@@ -302,6 +312,7 @@ impl<T: Task + Drop> Crew<T> {
             state = self.worker_woken.wait(rt, state);
         }
         state.idle = state.idle.saturating_sub(1);
+        state.is_waking = false;
         let has_ended = timed_out && state.running > MIN_THREADS && !state.is_unattended();
         if has_ended {
             state.running = state.running.saturating_sub(1);
@@ -368,13 +379,13 @@ impl<T: Task + Drop> Crew<T> {
         let mut state = self.state.lock(rt);
         let Some(until) = until else {
             let refused = state.add_ready(token, task, false);
-            self.wake_for(&mut state, 1);
+            self.wake(&mut state);
             return refused;
         };
         let ended = state.has_ended(token);
         if let Some(task) = state.wait_unless(ended, token, task, until) {
             let refused = state.add_ready(token, task, false);
-            self.wake_for(&mut state, 1);
+            self.wake(&mut state);
             return refused;
         }
         self.poll_until(&state, until);
@@ -432,6 +443,7 @@ impl<T: Task + Drop + Send + 'static> Crew<T> {
             polls_until: Duration::MAX,
             running: 0,
             idle: 0,
+            is_waking: false,
             turns: 0,
             watcher_rests: false,
             is_closed: false,

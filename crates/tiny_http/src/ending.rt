@@ -6,6 +6,8 @@ use std::sync::atomic::{AtomicBool, Ordering};
 pub(crate) struct Ending {
     // Whether accepting has been ended: no further client is to be accepted.
     is_closed: AtomicBool,
+    // Whether `stop` was called: requests are still handed out.
+    is_stopping: AtomicBool,
     // Whether the accepting thread accepts no further client.
     has_accepted_all: AtomicBool,
     // Whether a call to `stop` has finished its wait.
@@ -17,6 +19,7 @@ impl Ending {
     pub fn new() -> Ending {
         Ending {
             is_closed: AtomicBool::new(false),
+            is_stopping: AtomicBool::new(false),
             has_accepted_all: AtomicBool::new(false),
             has_stopped: AtomicBool::new(false),
         }
@@ -30,6 +33,16 @@ impl Ending {
     /// Returns whether `close` has been called: no further client is to be accepted.
     pub fn is_closed(&self) -> bool {
         self.is_closed.load(Ordering::SeqCst)
+    }
+
+    /// Records that the server is being stopped. It is called before `close`.
+    pub fn begin_stop(&self) {
+        self.is_stopping.store(true, Ordering::SeqCst);
+    }
+
+    /// Returns whether the server is being stopped, or was.
+    pub fn is_stopping(&self) -> bool {
+        self.is_stopping.load(Ordering::SeqCst)
     }
 
     /// Records that the accepting thread accepts no further client.

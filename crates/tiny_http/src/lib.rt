@@ -40,6 +40,7 @@ mod accepting;
 mod arrival;
 mod closing;
 mod crew;
+mod descriptors;
 mod ending;
 mod faults;
 pub mod laws;

@@ -3,8 +3,9 @@ ghost use Rattle.std.specs.Prelude.{◌≡◌, Err, IsSome, IsErr};
 ghost use Rattle.httpdate.specs.Date.{unix_secs};
 ghost use Rattle.tiny_http.specs.Clock.{seconds_of};
 
-use crate::accepting::{Accepting, Message, Messages, Queuing, drop_waiting};
+use crate::accepting::{Accepting, Message, Queuing};
 use crate::crew::Crew;
+use crate::descriptors::openable;
 use crate::ending::Ending;
 use crate::registry::{ConnectionRegistry, time_of};
 use httpdate::HttpDate;
@@ -108,6 +109,14 @@ pub enum ServerError {
     /// Out of memory.
     #[error("out of memory")]
     Memory,
+    /// The limits allow more connections than the process may open descriptors.
+    #[error("{connections} connections are allowed, but only {openable} descriptors can be opened: raise `ulimit -n`")]
+    TooFewDescriptors {
+        /// The limit of connections.
+        connections: usize,
+        /// How many descriptors can be opened.
+        openable: usize,
+    },
 }
 
 impl From<io::Error> for ServerError {
@@ -129,12 +138,13 @@ impl From<ServerError> for io::Error {
 
     ghost from_gives = { IsFaultOf };
 
-    /// Returns the fault itself, or `InvalidInput` for `Ssl` and `OutOfMemory` for `Memory`.
+    /// Returns the fault itself, or `InvalidInput` for `Ssl` and `TooFewDescriptors`, and `OutOfMemory` for `Memory`.
     fn from(error: ServerError) -> io::Error {
         match error {
             ServerError::Io(fault) => fault,
             ServerError::Ssl => ErrorKind::InvalidInput.into(),
             ServerError::Memory => ErrorKind::OutOfMemory.into(),
+            ServerError::TooFewDescriptors { .. } => ErrorKind::InvalidInput.into(),
         }
     }
 }
@@ -202,10 +212,7 @@ impl SslConfig {
 /// The date of a request is read once its head has come. If the request is dropped, its 500 has this date.
 pub struct Server<R: Net + SocketFiles + Wait + Clock + Drop> {
     pub(crate) rt: R,
-    ending: Arc<Ending>,
-    // Set once the server serves with a handler.
-    pub(crate) serving: Arc<AtomicBool>,
-    pub(crate) messages: Arc<Messages<R>>,
+    pub(crate) queuing: Arc<Queuing<R>>,
     pub(crate) registry: Arc<ConnectionRegistry>,
     // Maximum number of workers of a call to `serve`, and of those that read requests for the queue.
     pub(crate) most_workers: usize,
@@ -262,7 +269,8 @@ impl<R: ServerRuntime> Server<R> {
     /// Makes a server as `new_with` does, but with these limits for its clients, as a server for untrusted clients
     /// needs them. After a temporary accept error, such as a lack of descriptors or a connection that its client has
     /// reset, it waits and tries again. If the address is the path of a Unix socket on which no process listens, the
-    /// socket's file is removed first.
+    /// socket's file is removed first. If more than 1,000 connections are allowed, as many descriptors are opened for a
+    /// moment; if the process may not open them, the error is `TooFewDescriptors`.
     pub fn with(
         rt: R,
         alloc: Global,
@@ -335,7 +343,7 @@ impl<R: ServerRuntime> Server<R> {
     }
 
     /// Makes a server over this listening socket as `from_listener_with` does, but with these limits for its clients
-    /// and with the accept loop of `with`.
+    /// and with the accept loop of `with`. Also fails with `TooFewDescriptors`, as `with` does.
     pub fn from_listener_within(
         rt: R,
         alloc: Global,
@@ -365,6 +373,16 @@ impl<R: ServerRuntime> Server<R> {
         if ssl.is_some() {
             return Err(ServerError::Ssl);
         }
+        if let Some(limits) = &limits {
+            let connections = limits.connections;
+            let openable = openable(&rt, alloc, connections)?;
+            if openable < connections {
+                return Err(ServerError::TooFewDescriptors {
+                    connections,
+                    openable,
+                });
+            }
+        }
         Ok(Server::over(rt, alloc, profile, limits, listener)?)
     }
 
@@ -377,17 +395,14 @@ impl<R: ServerRuntime> Server<R> {
         listener: Listener,
     ) -> io::Result<Server<R>> {
         let listening_addr = listener.local_addr()?;
-        let ending = Arc::new(alloc, Ending::new())?;
-        let serving = Arc::new(alloc, AtomicBool::new(false))?;
-        let messages = MessagesQueue::with_capacity(alloc, QUEUE_ROOM)?;
-        let registry = ConnectionRegistry::new(alloc, limits.as_ref())?;
-        let most_workers = limits.as_ref().map_or(usize::MAX, |limits| limits.workers);
         let queuing = Queuing {
-            messages: Arc::try_clone(&messages)?,
-            ending: Arc::try_clone(&ending)?,
-            serving: Arc::try_clone(&serving)?,
+            messages: MessagesQueue::with_capacity(alloc, QUEUE_ROOM)?,
+            ending: Arc::new(alloc, Ending::new())?,
+            serving: AtomicBool::new(false),
         };
         let queuing = Arc::new(alloc, queuing)?;
+        let registry = ConnectionRegistry::new(alloc, limits.as_ref())?;
+        let most_workers = limits.as_ref().map_or(usize::MAX, |limits| limits.workers);
         let crew = Crew::start(rt, alloc, most_workers)?;
         let accepting = Accepting {
             rt,
@@ -395,7 +410,7 @@ impl<R: ServerRuntime> Server<R> {
             profile,
             limits,
             listener,
-            queuing,
+            queuing: Arc::try_clone(&queuing)?,
             registry: Arc::try_clone(&registry)?,
             crew: Arc::try_clone(&crew)?,
         };
@@ -405,9 +420,7 @@ impl<R: ServerRuntime> Server<R> {
         }
         Ok(Server {
             rt,
-            ending,
-            serving,
-            messages,
+            queuing,
             registry,
             most_workers,
             listening_addr,
@@ -458,7 +471,7 @@ impl<R: Net + SocketFiles + Wait + Clock + Drop> Server<R> {
     /// would be lost.
     pub fn recv(&self) -> io::Result<ServerRequest<R>> {
         for _ in self.rt.forever() {
-            let popped = self.messages.pop(&self.rt);
+            let popped = self.queuing.messages.pop(&self.rt);
             match self.received(popped)? {
                 Some(request) if request.is_lost() => drop(request),
                 Some(request) => return Ok(request),
@@ -472,7 +485,7 @@ impl<R: Net + SocketFiles + Wait + Clock + Drop> Server<R> {
     /// Fails with the error that ended accepting, which one call reports.
     pub fn try_recv(&self) -> io::Result<Option<ServerRequest<R>>> {
         for _ in self.rt.forever() {
-            let popped = self.messages.try_pop(&self.rt);
+            let popped = self.queuing.messages.try_pop(&self.rt);
             match self.received(popped)? {
                 Some(request) if request.is_lost() => drop(request),
                 received => return Ok(received),
@@ -485,15 +498,15 @@ impl<R: Net + SocketFiles + Wait + Clock + Drop> Server<R> {
     // another waiting call returns, too.
     fn received(&self, popped: Option<Message<R>>) -> io::Result<Option<ServerRequest<R>>> {
         if self.has_stopped() {
-            let _ = self.messages.unblock(&self.rt);
+            let _ = self.queuing.messages.unblock(&self.rt);
             return Ok(None);
         }
-        Message::received(&self.messages, &self.rt, popped)
+        Message::received(&self.queuing.messages, &self.rt, popped)
     }
 
     /// Makes one call that waits for a request, now or later, return without one. Fails if memory is refused.
     pub fn unblock(&self) -> Result<(), AllocError> {
-        self.messages.unblock(&self.rt)
+        self.queuing.messages.unblock(&self.rt)
     }
 }
 
@@ -501,8 +514,9 @@ impl<R: Net<Listener = TcpListener, Stream = TcpStream> + SocketFiles + Wait + C
     R,
 > {
     /// Stops the server, from any thread. No further client is accepted, connections that wait for a head are closed,
-    /// and requests in the queue are dropped, so that they get a 500. A connection with an open request is closed after
-    /// its last response, which says so under `Standard` unless it had begun.
+    /// and requests in the queue are dropped, so that they get a 500. The handler of `serve` still gets each request
+    /// whose head has come. A connection with an open request is closed after its last response, which says so under
+    /// `Standard` unless it had begun.
     ///
     /// The call waits, for at most `time`, until every request that was handed out is answered and every connection is
     /// closed; then each call that waits for a request, and `serve`, returns. A later call waits again for what is
@@ -510,16 +524,17 @@ impl<R: Net<Listener = TcpListener, Stream = TcpStream> + SocketFiles + Wait + C
     /// time. The call takes longer if a client doesn't read a 500 that the call sends.
     pub fn stop(&self, time: Duration) -> Stopped {
         let begun = time_of(&self.rt);
+        self.queuing.ending.begin_stop();
         self.end_accepting();
         self.registry.stop(&self.rt);
-        drop_waiting(&self.rt, &self.messages, &self.ending);
+        self.queuing.drop_waiting(&self.rt);
         let is_empty = self.registry.wait_until_empty(&self.rt, begun, time);
-        if !self.ending.has_accepted_all() {
+        if !self.queuing.ending.has_accepted_all() {
             // There may have been no descriptor for this connection before.
             self.connect_to_itself();
         }
-        self.ending.stop();
-        let _ = self.messages.unblock(&self.rt);
+        self.queuing.ending.stop();
+        let _ = self.queuing.messages.unblock(&self.rt);
         if is_empty {
             return Stopped::Answered;
         }
@@ -534,7 +549,7 @@ impl<R: Net + SocketFiles + Wait + Clock + Drop> Server<R> {
         let begun = time_of(&self.rt);
         let mut left = timeout;
         for _ in self.rt.forever() {
-            let popped = self.messages.pop_timeout(&self.rt, left);
+            let popped = self.queuing.messages.pop_timeout(&self.rt, left);
             match self.received(popped)? {
                 Some(request) if request.is_lost() => drop(request),
                 received => return Ok(received),
@@ -549,7 +564,7 @@ impl<R: Net + SocketFiles + Wait + Clock + Drop> Server<R> {
     // Ends accepting, for which the server connects to itself once, and removes the file of a Unix socket. A second
     // call does nothing.
     fn end_accepting(&self) {
-        if !self.ending.close() {
+        if !self.queuing.ending.close() {
             return;
         }
         let rt = &self.rt;
@@ -576,7 +591,7 @@ impl<R: Net + SocketFiles + Wait + Clock + Drop> Server<R> {
 
     // Returns whether a call to `stop` has finished its wait: all was answered, or the time had run out.
     pub(crate) fn has_stopped(&self) -> bool {
-        self.ending.has_stopped()
+        self.queuing.ending.has_stopped()
     }
 }
 
@@ -585,12 +600,10 @@ impl<R: Net + SocketFiles + Wait + Clock + Drop> Drop for Server<R> {
     /// file of a Unix socket.
     fn drop(self) {
         self.end_accepting();
-        drop_waiting(&self.rt, &self.messages, &self.ending);
+        self.queuing.drop_waiting(&self.rt);
         let Server {
             rt: _,
-            ending: _,
-            serving: _,
-            messages: _,
+            queuing: _,
             registry: _,
             most_workers: _,
             listening_addr: _,

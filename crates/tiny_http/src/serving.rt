@@ -99,7 +99,7 @@ impl<R: ServerRuntime> Server<R> {
     ) -> io::Result<()> {
         let rt = self.rt;
         let crew = Crew::start(rt, alloc, self.most_workers)?;
-        self.serving.store(true, Ordering::SeqCst);
+        self.queuing.serving.store(true, Ordering::SeqCst);
         let ended = self.serve_by_crew(alloc, handler, &crew);
         crew.close(&rt);
         ended
@@ -114,7 +114,7 @@ impl<R: ServerRuntime> Server<R> {
     ) -> io::Result<()> {
         let rt = self.rt;
         for _ in rt.forever() {
-            let (work, socket, until) = match self.messages.pop(&rt) {
+            let (work, socket, until) = match self.queuing.messages.pop(&rt) {
                 Some(Message::NewClient(mut arrival)) => {
                     arrival.hold_responses();
                     let (socket, until) = (arrival.socket(), arrival.begin());
@@ -126,7 +126,7 @@ impl<R: ServerRuntime> Server<R> {
                 Some(Message::Error(fault)) => return Err(fault),
                 None => {
                     if self.has_stopped() {
-                        let _ = self.messages.unblock(&rt);
+                        let _ = self.queuing.messages.unblock(&rt);
                     }
                     return Ok(());
                 }

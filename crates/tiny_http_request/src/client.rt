@@ -415,12 +415,10 @@ impl<R: ReadAheadDevice + Drop, W: WriteDevice + Drop, Rt: Wait + Copy> ClientCo
         }
     }
 
-    /// Waits until the input isn't with a request: until that request's body is read or given up.
+    /// Waits until no request has the input: until its body is read or given up. Returns at once if no request follows.
     pub fn wait_for_input(&mut self) {
-        if !self.sink.is_closed()
-            && let Some(next_head) = self.next_head.take()
-        {
-            self.next_head = Some(NextHead::Here(next_head.hold()));
+        if !self.sink.is_closed() {
+            self.hold_input();
         }
     }
 
@@ -463,7 +461,14 @@ impl<R: ReadAheadDevice + Drop, W: WriteDevice + Drop, Rt: Wait + Copy> ClientCo
             Some(NextHead::Behind(reader)) => reader.try_hold(),
             _ => false,
         };
-        if has_come && let Some(next_head) = self.next_head.take() {
+        if has_come {
+            self.hold_input();
+        }
+    }
+
+    // Takes the input, for which it waits while a request has it.
+    fn hold_input(&mut self) {
+        if let Some(next_head) = self.next_head.take() {
             self.next_head = Some(NextHead::Here(next_head.hold()));
         }
     }
