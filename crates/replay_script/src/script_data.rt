@@ -11,7 +11,7 @@ use tiny_http_wire::device::{Canned, ReadDevice, Stop};
 pub enum ScriptData {
     /// Bytes in memory, then an end or a fault.
     Given(Given),
-    /// Bytes `x`, then an end or a fault.
+    /// A run of `b'x'` bytes, then an end or a fault.
     Xs(Xs),
 }
 
@@ -23,13 +23,13 @@ pub struct Given {
     ghost few: { length canned.bytes < 2 ^ 63 },
 }
 
-/// A number of bytes `x`, then an end or a fault. They take no memory.
+/// A run of `b'x'` bytes, then an end or a fault. The bytes take no memory.
 #[derive(Drop)]
 pub struct Xs {
     // The number of bytes that are left.
     left: usize,
     stop: Stop,
-    // A 16-bit number counts the bytes.
+    // The count comes from a `u16`.
     ghost few: { left < 2 ^ 16 },
 }
 
@@ -47,14 +47,14 @@ fn write_xs(count: usize, to: &mut [u8]) -> usize
 impl ScriptData {
     ghost use Rattle.replay_script.specs.ScriptData.{data_feed, xs};
 
-    /// Returns data that give the bytes of a text, then the end.
+    /// Returns data that yields the bytes of a text, then the end.
     pub fn from_text(text: String) -> ScriptData
         ensures { data_feed result ≡ whole_feed (string_bytes text) }
     {
         ScriptData::from_bytes(text.into_bytes(), None)
     }
 
-    /// Returns data that give these bytes, then the end, or a fault of the kind `fault` if it is given.
+    /// Returns data that yields these bytes, then the end, or a fault of kind `fault` if there is one.
     pub fn from_bytes(bytes: Vec<u8>, fault: Option<ErrorKind>) -> ScriptData
         ensures { data_feed result ≡ record { bytes = bytes.items; stop = stop_of fault } }
     {
@@ -62,7 +62,7 @@ impl ScriptData {
         ScriptData::Given(Given { canned })
     }
 
-    /// Returns data that give `count` bytes `x`, then this stop.
+    /// Returns data that yields `count` bytes `b'x'`, then this stop.
     pub fn xs(count: u16, stop: Stop) -> ScriptData
         ensures { data_feed result ≡ xs count stop }
     {
@@ -112,7 +112,7 @@ impl ReadDevice for ScriptData {
 
     ghost feed = { λ d. Some (data_feed d) };
 
-    /// Reads the bytes in memory, or the bytes `x`.
+    /// Reads the bytes in memory, or `b'x'` bytes.
     fn read_in(&mut self, buf: &mut [u8]) -> Result<usize, io::Error> {
         match self {
             ScriptData::Given(given) => given.read_in(buf),

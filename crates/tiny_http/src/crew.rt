@@ -73,7 +73,7 @@ struct CrewState<T> {
     polls_until: Duration,
     running: usize,
     idle: usize,
-    // Whether an idle worker was woken and hasn't come back yet.
+    // Whether an idle worker was woken, and none has ended its rest since.
     is_waking: bool,
     // How often a worker has taken a task or the poller.
     turns: u64,
@@ -174,8 +174,8 @@ pub(crate) struct Crew<T> {
 }
 
 impl<T: Task + Drop> Crew<T> {
-    // Wakes a worker if tasks are ready: an idle one, which wakes the next, or, if there is none, the one that waits for
-    // events. Wakes the watcher if it rests.
+    // Wakes a worker if tasks are ready: an idle one, which wakes the next, or, if there is none, the one that waits
+    // for events. Wakes the watcher if it rests.
     fn wake(&self, state: &mut CrewState<T>) {
         if !state.ready.is_empty() {
             if state.idle == 0 {

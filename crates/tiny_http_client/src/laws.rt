@@ -44,7 +44,7 @@ pub fn one_client_answer()
 {}
 
 /// Any bytes are read as exactly one list of responses to requests with these methods, in order, and one rest. The list
-/// goes on until the methods are used up or the rest begins with no response to the next method.
+/// ends when the methods are used up, or when the rest doesn't begin with a response to the next method.
 pub fn one_list_of_client_answers()
     ensures some { (methods : List Method) (bytes : List ℕ)
         → (answers : List ClientAnswer) × (rest : List ℕ) × ReadsAnswers methods bytes answers rest }
@@ -55,8 +55,8 @@ pub fn one_list_of_client_answers()
         → (answers ≡ others) × (rest ≡ remainder) }
 {}
 
-/// A client reads the complete text of a response back as it was printed, whatever follows the text: version, status,
-/// printed headers and sent body. It reads exactly the text. The status must be 200 or above, the response must not be
+/// Whatever follows the complete text of a response, a client reads back the version, status, printed headers and sent
+/// body as they were printed, and consumes exactly that text. The status must be 200 or above, the response must not be
 /// an upgrade and must be printed for the client's method, the names and values of its headers must be readable, and
 /// its numbers must fit their types (`IsReadableAnswer`).
 pub fn text_is_read_back()

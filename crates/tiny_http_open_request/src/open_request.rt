@@ -54,7 +54,7 @@ pub struct OpenRequest<B> {
     pub by_standard: bool,
     /// Whether the request's method is `CONNECT`.
     pub is_connect: bool,
-    /// Whether a response asked for the connection to close after this request.
+    /// Whether `close` was called: under `Standard` the response says that the connection closes after it.
     pub closes: bool,
     /// Copies of the request's `Upgrade` headers if it held the next head when it was created; otherwise empty.
     pub upgrades: Vec<Header>,
@@ -131,19 +131,19 @@ impl<B: Drop> OpenRequest<B> {
         self.closes = true;
     }
 
-    /// Returns whether no head is read after this request if it is now answered or dropped, or its raw writer is taken,
-    /// with `left` of its body unread. Under `Standard` this holds in two cases: its 100 is owed, so that the client
-    /// may either send the body or omit it (RFC 9110, section 10.1.1); or more of the body is left than the server
-    /// skips. Under another profile it never holds.
+    /// Returns whether no head may be read after this request, whatever its own head says, if it is now answered or
+    /// dropped, or its raw writer is taken, with `left` of its body unread. Under `Standard` there are two such cases:
+    /// its 100 is owed, so that the client may either send the body or omit it (RFC 9110, section 10.1.1); or more of
+    /// the body is left than the server skips. Under another profile the result is false.
     pub fn is_last_once_finished(&self, left: Remainder) -> bool
         ensures { result ≡ is_last_once_finished self.now left }
     {
         self.by_standard && (self.owes_continue || left == Remainder::Long)
     }
 
-    /// Returns whether no head is read after this request once its raw writer or an upgrade takes over the connection's
-    /// stream: whether the next head waits for the response to this request (`holds_next_head`), or
-    /// `is_last_once_finished` holds.
+    /// Returns whether no head may be read after this request, whatever its own head says, once its raw writer or an
+    /// upgrade takes over the connection's stream: whether the next head waits for the response to this request
+    /// (`holds_next_head`), or `is_last_once_finished` holds.
     pub fn is_last_with_stream(&self, left: Remainder) -> bool
         ensures { result ≡ is_last_with_stream self.now left }
     {
@@ -322,9 +322,9 @@ impl<B: Drop> OpenRequest<B> {
         );
     }
 
-    /// Takes the text that is sent if this request is dropped with `left` of its body unread: an empty 500, printed for
-    /// the request's version, headers and method, with the date on which the request was read (as in the Rust crate). A
-    /// later call returns no bytes. No 100 is owed afterwards. The caller must send the text in the request's turn,
+    /// Takes the text that is sent if this request is dropped with `left` of its body unread: an empty 500 (as in the
+    /// Rust crate), printed for the request's version, headers and method, and dated when the request was read. A later
+    /// call returns no bytes. No 100 is owed afterwards. The caller must send the text in the request's turn,
     /// instead of a response, and discard the body. Allocates nothing.
     pub fn take_drop_text(&mut self, left: Remainder) -> Vec<u8>
         ensures text { result.items ≡ drop_text self.old.dropped (final_context self.old left) }

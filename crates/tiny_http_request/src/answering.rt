@@ -1,4 +1,4 @@
-//! The changes to a request's body and turn when its response or the stream of its upgrade begins.
+//! The changes to a request's body and turn when its response or its upgraded stream begins.
 ghost use Rattle.tiny_http_request.specs.Body.{KeepsLeft, upgraded_body};
 
 use crate::body::Body;
@@ -9,7 +9,7 @@ use tiny_http_io::outlet::Outlet;
 use tiny_http_open_request::open_request::OpenRequest;
 use tiny_http_threads::sequential::SequentialWriter;
 
-/// Makes the body the stream of an upgrade. If `is_last_with_stream` holds, no further head is read from the
+/// Turns the body into the upgraded stream. If `is_last_with_stream` holds, no further head is read from the
 /// connection.
 pub(crate) fn read_stream<R: ReadDevice + Drop, Rt: Wait + Drop>(
     open_request: &mut OpenRequest<Body<R, Rt>>,

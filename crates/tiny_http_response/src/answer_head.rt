@@ -238,10 +238,10 @@ fn put_lines<W: WriteDevice>(
 }
 
 /// Writes the head of a response: status line, field lines and an empty line (RFC 9112, sections 4 and 5). Under
-/// `Profile::Standard`, the status line has version 1.1; except for an upgrade and a code below 200, `Connection`
-/// states that the connection closes, or for versions up to 1.0 that it persists, and `Upgrade` offers the response's
-/// protocols, if any; a header whose name isn't a token is omitted, and any other takes one line. A head of up to 512
-/// bytes is one write.
+/// `Profile::Standard`, the status line has version 1.1, a header whose name isn't a token is omitted, and each other
+/// takes one line. Unless this is an upgrade or the code is below 200, `Connection` is written if the connection
+/// closes, if it persists and the request's version is at most 1.0, or if the response offers protocols, which
+/// `Upgrade` then lists. A head of up to 512 bytes is one write.
 pub(crate) fn put_head<W: WriteDevice>(
     writer: &mut W,
     head: &ResponseHead<'_>,

@@ -94,7 +94,7 @@ pub struct SharedState {
     phase: AtomicU8,
     // Whether `stop` was called: no further head is read then.
     is_stopped: AtomicBool,
-    // Whether the time for the head that has begun is over.
+    // Whether the time allowed for the current head has run out.
     is_head_late: AtomicBool,
     requests: AtomicU64,
     // The number of requests and refused heads that have no response yet.
@@ -188,12 +188,12 @@ impl SharedState {
             .compare_exchange(old, new, Ordering::SeqCst, Ordering::SeqCst);
     }
 
-    /// Records that the time for the head that has begun is over: a read for more of it fails with `TimedOut`.
+    /// Records that the time allowed for the current head has run out: a read for more of it fails with `TimedOut`.
     pub fn expire_head(&self) {
         self.is_head_late.store(true, Ordering::SeqCst);
     }
 
-    /// Returns whether the time for the head that has begun is over, as `expire_head` recorded.
+    /// Returns whether the time allowed for the current head has run out, as `expire_head` recorded.
     pub fn is_head_late(&self) -> bool {
         self.is_head_late.load(Ordering::SeqCst)
     }
@@ -246,7 +246,7 @@ impl SharedState {
     }
 
     /// Prevents any further head from being read. Returns whether the connection was in phase `Between` or `Head`. If
-    /// it was, nothing more is read, and the caller must shut down the direction from the client.
+    /// it was, nothing more is read, and the caller must shut down the read half of the connection.
     pub fn stop(&self) -> bool {
         self.is_stopped.store(true, Ordering::SeqCst);
         self.stop_from(Phase::Between) || self.stop_from(Phase::Head)
@@ -279,7 +279,7 @@ impl SharedState {
         self.requests.load(Ordering::SeqCst)
     }
 
-    /// Returns the counts of the connection so far: the number of requests handed out, the status of a refused head,
+    /// Returns a summary of the connection so far: the number of requests handed out, the status of a refused head,
     /// and the limit that closed the connection.
     pub fn summary(&self) -> Summary {
         let refusal = match self.refusal.load(Ordering::SeqCst) {

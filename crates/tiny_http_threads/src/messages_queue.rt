@@ -7,7 +7,7 @@ ghost use Rattle.tiny_http_threads.specs.Queue.{popped_value};
 use std::alloc::{AllocError, Global};
 use std::collections::VecDeque;
 use std::marker::Model;
-use std::sync::{Arc, Condvar, Mutex, Wait};
+use std::sync::{Arc, Condvar, Mutex, MutexGuard, Wait};
 use std::time::{Clock, Duration, Instant};
 
 /// The result of popping the front of a queue.
@@ -86,6 +86,11 @@ impl<T> QueueState<T> {
         }
     }
 
+    // Returns whether the queue is empty.
+    fn is_empty(&self) -> bool {
+        self.marks.is_empty()
+    }
+
     /// Takes the value or the mark at the front, if the queue isn't empty.
     pub fn pop(&mut self) -> Popped<T>
         ensures { Pops self.old result self.new }
@@ -98,12 +103,46 @@ impl<T> QueueState<T> {
     }
 }
 
-/// A queue that threads share: a `QueueState` under a lock. Each call is one step on that state, except for `clear`,
-/// and for the pops that wait, which retry until there is something to pop or their time is over. The lock is released
-/// before a waiting thread is woken. No contract here states what a call did to the queue.
+// A queue, and what is known of the threads that wait for it.
+#[derive(Drop)]
+struct Shared<T> {
+    queue: QueueState<T>,
+    // How many threads wait.
+    waiting: usize,
+    // Whether a waiting thread was woken, and no thread has ended its wait since.
+    is_waking: bool,
+}
+
+impl<T> Shared<T> {
+    // Returns whether a waiting thread must be woken now, and if so records that one is being woken. One must be if
+    // there is something to pop and no other thread is being woken. The woken thread calls this again.
+    fn takes_wake(&mut self) -> bool {
+        let wakes = self.waiting > 0 && !self.is_waking && !self.queue.is_empty();
+        if wakes {
+            self.is_waking = true;
+        }
+        wakes
+    }
+
+    // Begins a wait.
+    fn begin_wait(&mut self) {
+        self.waiting = self.waiting.saturating_add(1);
+    }
+
+    // Ends a wait.
+    fn end_wait(&mut self) {
+        self.waiting = self.waiting.saturating_sub(1);
+        self.is_waking = false;
+    }
+}
+
+/// A queue that threads share: a `QueueState` behind a lock. Each call is a single atomic operation on that state,
+/// except for `clear`, and for the pops that wait, which retry until there is something to pop or they time out. One
+/// waiting thread is woken at a time, and wakes the next one if there is more to pop. The lock is released before a
+/// thread is woken. No contract here states what a call did to the queue.
 #[derive(Drop)]
 pub struct MessagesQueue<T> {
-    state: Mutex<QueueState<T>>,
+    shared: Mutex<Shared<T>>,
     woken: Condvar,
 }
 
@@ -113,8 +152,13 @@ impl<T: Drop> MessagesQueue<T> {
         alloc: Global,
         capacity: usize,
     ) -> Result<Arc<MessagesQueue<T>>, AllocError> {
+        let shared = Shared {
+            queue: QueueState::with_capacity(alloc, capacity)?,
+            waiting: 0,
+            is_waking: false,
+        };
         let queue = MessagesQueue {
-            state: Mutex::new(QueueState::with_capacity(alloc, capacity)?),
+            shared: Mutex::new(shared),
             woken: Condvar::new(),
         };
         Ok(Arc::new(alloc, queue)?)
@@ -123,15 +167,16 @@ impl<T: Drop> MessagesQueue<T> {
     /// Adds an unblock mark at the back, for which one pop returns `None`, and wakes a waiting thread. Fails if memory
     /// is refused.
     pub fn unblock<R: Wait>(&self, rt: &R) -> Result<(), AllocError> {
-        self.state.lock(rt).unblock()?;
-        self.woken.notify_one();
+        let mut shared = self.shared.lock(rt);
+        shared.queue.unblock()?;
+        self.wake(shared);
         Ok(())
     }
 
     /// Removes one value or mark after another until the queue is empty, and drops each outside the lock.
     pub fn clear<R: Wait>(&self, rt: &R) {
         for _ in rt.forever() {
-            let found = self.state.lock(rt).pop();
+            let found = self.shared.lock(rt).queue.pop();
             if let Popped::Empty = found {
                 return;
             }
@@ -145,18 +190,35 @@ impl<T> MessagesQueue<T> {
     pub fn push<R: Wait>(&self, rt: &R, value: T) -> Result<(), T>
         ensures { IfErr result (λ back. back ≡ value) }
     {
-        self.state.lock(rt).push(value)?;
-        self.woken.notify_one();
+        let mut shared = self.shared.lock(rt);
+        shared.queue.push(value)?;
+        self.wake(shared);
         Ok(())
+    }
+
+    // Releases the lock, and wakes a waiting thread if one must be woken (`takes_wake`).
+    fn wake(&self, mut shared: MutexGuard<'_, Shared<T>>) {
+        let wakes = shared.takes_wake();
+        drop(shared);
+        if wakes {
+            self.woken.notify_one();
+        }
     }
 
     /// Waits until there is something at the front, and takes it. Returns a value, or `None` for an unblock mark.
     pub fn pop<R: Wait>(&self, rt: &R) -> Option<T> {
-        let mut state = self.state.lock(rt);
+        let mut shared = self.shared.lock(rt);
         for _ in rt.forever() {
-            match state.pop() {
-                Popped::Empty => state = self.woken.wait(rt, state),
-                found => return popped_value(found),
+            match shared.queue.pop() {
+                Popped::Empty => {
+                    shared.begin_wait();
+                    shared = self.woken.wait(rt, shared);
+                    shared.end_wait();
+                }
+                found => {
+                    self.wake(shared);
+                    return popped_value(found);
+                }
             }
         }
         unreachable!()
@@ -164,30 +226,33 @@ impl<T> MessagesQueue<T> {
 
     /// Takes what is at the front. Returns a value, or `None` for an unblock mark or an empty queue.
     pub fn try_pop<R: Wait>(&self, rt: &R) -> Option<T> {
-        let found = self.state.lock(rt).pop();
+        let found = self.shared.lock(rt).queue.pop();
         popped_value(found)
     }
 
-    /// Pops as `pop` does, but returns `None` after `timeout`. Each wait is for the rest of that time. A rest below a
-    /// millisecond counts as 0, and so does any rest if the clock can't be read. The queue is checked before the first
-    /// wait and after each one.
+    /// Pops as `pop` does, but returns `None` after `timeout`. Each wait is for the time that remains. Less than a
+    /// millisecond counts as none, and so does any remaining time if the clock can't be read. The queue is checked
+    /// before the first wait and after each one.
     pub fn pop_timeout<R: Wait + Clock>(&self, rt: &R, timeout: Duration) -> Option<T> {
-        let mut state = self.state.lock(rt);
-        match state.pop() {
-            Popped::Empty => {}
-            found => return popped_value(found),
-        }
-        let start = Instant::now(rt).ok();
+        let mut shared = self.shared.lock(rt);
+        let mut found = shared.queue.pop();
+        let mut start = None;
         for _ in rt.forever() {
-            let elapsed = start.and_then(|start| start.elapsed(rt).ok());
-            let left = time_left(timeout, elapsed)?;
-            state = self.woken.wait_timeout(rt, state, left).0;
-            match state.pop() {
-                Popped::Empty => {}
-                found => return popped_value(found),
+            let Popped::Empty = found else { break };
+            if start.is_none() {
+                start = Instant::now(rt).ok();
             }
+            let elapsed = start.and_then(|start| start.elapsed(rt).ok());
+            let Some(left) = time_left(timeout, elapsed) else {
+                break;
+            };
+            shared.begin_wait();
+            shared = self.woken.wait_timeout(rt, shared, left).0;
+            shared.end_wait();
+            found = shared.queue.pop();
         }
-        unreachable!()
+        self.wake(shared);
+        popped_value(found)
     }
 }
 

@@ -70,7 +70,7 @@ pub struct SequentialReader<I: Read + Drop, R: Wait + Drop> {
 }
 
 impl<I: Read + Drop, R: Wait + Drop> SequentialReader<I, R> {
-    /// Takes the turn of this reader if it has come, without a wait. Returns whether the reader has it.
+    /// Takes the turn of this reader if it has come, without waiting. Returns whether the reader has it.
     #[doc(hidden)]
     pub fn try_hold(&mut self) -> bool {
         self.turn.try_hold()
@@ -130,7 +130,7 @@ impl<W: Write + Drop, R: Wait + Copy> SequentialWriterBuilder<W, R> {
     }
 
     /// Creates the next writer, or returns `None` once the queue has been closed: by `close_queue` or `close` of a
-    /// writer, or because the output broke (`close_when_broken`). Fails as `next` does.
+    /// writer, by `closed_flag`, or because the output broke (`close_when_broken`). Fails as `next` does.
     #[doc(hidden)]
     pub fn next_unless_closed(&mut self) -> Result<Option<SequentialWriter<W, R>>, AllocError> {
         let turn = Turn::new_unless_closed(self.rt, self.alloc, &self.queue)?;
@@ -149,7 +149,7 @@ impl<W: Write + Drop, R: Wait + Copy> SequentialWriterBuilder<W, R> {
         self.queue.closed_flag()
     }
 
-    /// Makes the queue close once one of its writers meets a fault, or `close_if_broken` finds that the output has
+    /// Makes the queue close once one of its writers encounters a fault, or `close_if_broken` finds that the output has
     /// ended.
     #[doc(hidden)]
     pub fn close_when_broken(&self) {
@@ -261,7 +261,8 @@ fn end_if_last<W: WriteDevice + Drop, R: Wait + Drop>(held: &mut Held<W, R>) {
 
 /// A writer that writes in its turn: its first write or flush waits until all writers created before it have finished
 /// their turns. Dropping it flushes and finishes its turn, or skips the turn if it hasn't come, without waiting for any
-/// turn. As a `WriteDevice` it counts the failures of its own `write_out` and `flush_out`, and states no bytes.
+/// turn. As a `WriteDevice` it counts the failures of its own `write_out` and `flush_out`; its contract says nothing of
+/// the bytes written.
 pub struct SequentialWriter<W: Write + Drop, R: Wait + Drop> {
     turn: Turn<W, R>,
     failures: u64,
@@ -287,7 +288,7 @@ impl<W: Write + Drop, R: Wait + Drop> SequentialWriter<W, R> {
         self.turn.place.is_broken()
     }
 
-    // Breaks the queue (`Place::break_queue`) if the inner writer met a fault.
+    // Breaks the queue (`Place::break_queue`) if the inner writer encountered a fault.
     fn note<T>(&self, outcome: &io::Result<T>) {
         if outcome.is_err() {
             self.turn.place.break_queue();
@@ -300,8 +301,8 @@ impl<W: Write + Drop, R: Wait + Drop> SequentialWriter<W, R> {
         self.turn.place.is_last()
     }
 
-    /// Waits for its turn, and returns the inner writer. A fault that the caller meets in using it doesn't break the
-    /// queue.
+    /// Waits for its turn, and returns the inner writer. A fault that the caller encounters while using it doesn't
+    /// break the queue.
     #[doc(hidden)]
     pub fn hold(&mut self) -> &mut W {
         self.turn.hold()

@@ -34,12 +34,29 @@ fn a_pop_that_is_woken_for_nothing_comes_back(rt: HostRuntime) -> Result<(), Fai
 fn a_try_waits_for_the_lock(rt: HostRuntime) -> Result<(), Fail> {
     let queue: Arc<MessagesQueue<u8>> = MessagesQueue::with_capacity(rt.alloc(), 8)?;
     let theirs = Arc::try_clone(&queue)?;
-    let mut state = queue.state.lock(&rt);
+    let mut shared = queue.shared.lock(&rt);
     let popper = thread::spawn(&rt, move || theirs.try_pop(&rt)).map_err(|_| "no thread")?;
     thread::sleep(&rt, Duration::from_millis(20));
-    let pushed = state.push(7);
-    drop(state);
+    let pushed = shared.queue.push(7);
+    drop(shared);
     assert_eq!(rt; pushed, Ok(()));
     assert_eq!(rt; popper.join(&rt), Some(7));
+    Ok(())
+}
+
+// A queue that woke no second thread would leave a value to wait.
+#[test]
+fn each_waiting_thread_gets_its_value(rt: HostRuntime) -> Result<(), Fail> {
+    let queue: Arc<MessagesQueue<u8>> = MessagesQueue::with_capacity(rt.alloc(), 8)?;
+    let (first, second) = (Arc::try_clone(&queue)?, Arc::try_clone(&queue)?);
+    let first = thread::spawn(&rt, move || first.pop(&rt)).map_err(|_| "no thread")?;
+    let second = thread::spawn(&rt, move || second.pop(&rt)).map_err(|_| "no thread")?;
+    thread::sleep(&rt, Duration::from_millis(20));
+    let mut shared = queue.shared.lock(&rt);
+    let pushed = (shared.queue.push(7), shared.queue.push(7));
+    queue.wake(shared);
+    assert_eq!(rt; pushed, (Ok(()), Ok(())));
+    assert_eq!(rt; first.join(&rt), Some(7));
+    assert_eq!(rt; second.join(&rt), Some(7));
     Ok(())
 }
