@@ -8,7 +8,6 @@ use crate::registry::time_of;
 use mio::unix::SourceFd;
 use mio::{Events, Interest, Poll, Registry, Token, Waker};
 use std::alloc::{AllocError, Global};
-use std::collections::VecDeque;
 use std::io::ErrorKind;
 use std::net::Net;
 use std::os::fd::RawFd;
@@ -17,6 +16,7 @@ use std::thread::Threads;
 use std::time::{Clock, Duration};
 use std::{io, mem, thread};
 use tiny_http_threads::task_pool::{IDLE_MILLIS, MIN_THREADS};
+use tiny_http_waiting::ready_queue::{ReadyQueue, Turn};
 use tiny_http_waiting::wait_table::WaitTable;
 
 // Maximum number of events that are taken at once.
@@ -45,11 +45,11 @@ pub(crate) trait Task {
     fn run(&mut self, is_late: bool) -> Progress;
 }
 
-// A task that is to be run.
+// A task that is ready to be run.
 #[derive(Drop)]
-struct Turn<T> {
-    token: usize,
+struct ReadyTask<T> {
     task: Box<T>,
+    // Whether the time of its wait is over.
     is_late: bool,
 }
 
@@ -63,8 +63,7 @@ struct Poller {
 #[derive(Drop)]
 struct CrewState<T> {
     table: WaitTable<Box<T>>,
-    // The tasks that are to be run, in order.
-    ready: VecDeque<Turn<T>>,
+    ready: ReadyQueue<ReadyTask<T>>,
     // For each token, whether an event told that its client sends no more, since the task was last taken to be run.
     ended: Vec<bool>,
     // `None` while a worker waits for events.
@@ -147,16 +146,11 @@ impl<T: Drop> CrewState<T> {
         self.table.wait(token, task, until)
     }
 
-    // Adds a task to be run. If memory is refused, returns the task.
+    // Adds a task to be run. If memory can't be allocated, returns the task.
     fn add_ready(&mut self, token: usize, task: Box<T>, is_late: bool) -> Option<Box<T>> {
-        let turn = Turn {
-            token,
-            task,
-            is_late,
-        };
-        match self.ready.push_back(turn) {
+        match self.ready.push(token, ReadyTask { task, is_late }) {
             Ok(()) => None,
-            Err(refused) => Some(refused.value.task),
+            Err(refused) => Some(refused.task),
         }
     }
 }
@@ -198,11 +192,11 @@ impl<T: Task + Drop> Crew<T> {
         }
     }
 
-    // Runs tasks and waits for events, until the worker must end.
-    fn work<R: Wait + Clock>(&self, rt: &R) {
+    // Runs tasks and waits for events as worker `worker`, until the worker must end.
+    fn work<R: Wait + Clock>(&self, rt: &R, worker: usize) {
         let mut state = self.state.lock(rt);
         for _ in rt.forever() {
-            if let Some(turn) = state.ready.pop_front() {
+            if let Some(turn) = state.ready.pop(worker) {
                 state.turns = state.turns.wrapping_add(1);
                 let ended = state.take_ended(turn.token);
                 self.wake(&mut state);
@@ -229,14 +223,11 @@ impl<T: Task + Drop> Crew<T> {
     fn run<'a, R: Wait>(
         &'a self,
         rt: &R,
-        turn: Turn<T>,
+        turn: Turn<ReadyTask<T>>,
         ended: bool,
     ) -> MutexGuard<'a, CrewState<T>> {
-        let Turn {
-            token,
-            mut task,
-            is_late,
-        } = turn;
+        let token = turn.token;
+        let ReadyTask { mut task, is_late } = turn.task;
         let progress = task.run(is_late);
         let Progress::Waits(until) = progress else {
             if let Progress::Left(socket) = progress {
@@ -437,7 +428,7 @@ impl<T: Task + Drop + Send + 'static> Crew<T> {
         let events = Events::with_capacity(alloc, MOST_EVENTS)?;
         let state = CrewState {
             table: WaitTable::new(alloc),
-            ready: VecDeque::new(alloc),
+            ready: ReadyQueue::new(alloc),
             ended: Vec::new(alloc),
             poller: Some(Poller { poll, events }),
             polls_until: Duration::MAX,
@@ -488,11 +479,13 @@ impl<T: Task + Drop + Send + 'static> Crew<T> {
         crew: &Arc<Crew<T>>,
     ) -> io::Result<bool> {
         let theirs = Arc::try_clone(crew)?;
-        {
+        let worker = {
             let mut state = crew.state.lock(&rt);
-            state.running = state.running.saturating_add(1);
-        }
-        if thread::spawn(&rt, move || theirs.work(&rt)).is_ok() {
+            let others = state.running;
+            state.running = others.saturating_add(1);
+            others
+        };
+        if thread::spawn(&rt, move || theirs.work(&rt, worker)).is_ok() {
             return Ok(true);
         }
         let mut state = crew.state.lock(&rt);

@@ -1,2 +1,3 @@
+pub mod ReadyQueue
 pub mod WaitTable
 pub mod WaitTableLaw
