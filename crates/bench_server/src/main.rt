@@ -337,7 +337,7 @@ fn main(rt: HostRuntime) -> ExitCode {
         Err(fault) => return ExitCode::from(report(&fault, &mut err)),
     };
     let words = words.as_slice().get(1..).unwrap_or(&[]);
-    let [flag, how, address, name] = words else {
+    if words.first().is_none_or(|word| word.as_str() != "--bodies") {
         return ExitCode::from(serve_hello(
             rt,
             rt.alloc(),
@@ -346,10 +346,10 @@ fn main(rt: HostRuntime) -> ExitCode {
             rt.stdout(),
             &mut err,
         ));
-    };
-    if flag.as_str() != "--bodies" {
-        return ExitCode::from(report(&BenchFault::Usage, &mut err));
     }
+    let [_, how, address, name] = words else {
+        return ExitCode::from(report(&BenchFault::Usage, &mut err));
+    };
     let served = match read_data(rt, rt.alloc(), name.as_str()) {
         Ok(data) => {
             serve_bodies(

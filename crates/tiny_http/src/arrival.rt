@@ -51,7 +51,8 @@ impl<R: Wait + Clock + Copy> Client<R> {
     }
 
     // Hands the next request to a handler. Returns false if there is none, or if the server was dropped, in which case
-    // the request is dropped, too. If the server is being stopped, the request is the last.
+    // the request is dropped, too. If the server is being stopped, the request is the last, and is dropped if it may
+    // read from the connection, whose read half the stop may have shut down.
     fn answer_next<H: Handler<R, ServerRequest<R>>>(&mut self, alloc: Global, handler: &H) -> bool {
         let rt = self.rt;
         let now = current_date(&rt);
@@ -64,6 +65,9 @@ impl<R: Wait + Clock + Copy> Client<R> {
                 return false;
             }
             self.connection.closed_flag().store(true, Ordering::SeqCst);
+            if may_read(&request) {
+                return false;
+            }
         }
         self.cork.send_unless_leaving();
         let _ = handler.handle(&rt, alloc, request);
@@ -106,6 +110,13 @@ impl<R: Wait + Clock + Copy> Client<R> {
         self.cork.release();
         self.connection.release_ahead();
     }
+}
+
+// Returns whether a request may read from its connection: its head announces a body, or it asks for an upgrade.
+fn may_read<R: Wait + Clock + Drop>(request: &ServerRequest<R>) -> bool {
+    request.body_length().is_some_and(|length| length > 0)
+        || request.header("Transfer-Encoding").is_some()
+        || request.is_upgrade()
 }
 
 // How long a connection that waits keeps its buffers, in milliseconds.

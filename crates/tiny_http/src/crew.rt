@@ -211,7 +211,7 @@ impl<T: Task + Drop> Crew<T> {
                 state.turns = state.turns.wrapping_add(1);
                 state = self.poll(rt, state, poller);
             } else {
-                let (woken, has_ended) = self.rest(rt, state);
+                let (woken, has_ended) = self.rest(rt, state, worker);
                 state = woken;
                 if has_ended {
                     return;
@@ -286,16 +286,17 @@ impl<T: Task + Drop> Crew<T> {
         state
     }
 
-    // Waits to be woken, for at most 5000 ms if more than `MIN_THREADS` workers run. Returns whether the worker must
-    // end; if so, it no longer counts as running.
+    // Waits to be woken. Returns whether the worker must end, after 5000 ms without work: then it no longer counts as
+    // running. The first `MIN_THREADS` workers, of which each prefers tasks of its own, wait for any time.
     fn rest<'a, R: Wait + Clock>(
         &'a self,
         rt: &R,
         mut state: MutexGuard<'a, CrewState<T>>,
+        worker: usize,
     ) -> (MutexGuard<'a, CrewState<T>>, bool) {
         state.idle = state.idle.saturating_add(1);
         let mut timed_out = false;
-        if state.running > MIN_THREADS {
+        if worker >= MIN_THREADS {
             let timeout = Duration::from_millis(IDLE_MILLIS);
             let (woken, waited) = self.worker_woken.wait_timeout(rt, state, timeout);
             state = woken;
@@ -305,7 +306,7 @@ impl<T: Task + Drop> Crew<T> {
         }
         state.idle = state.idle.saturating_sub(1);
         state.is_waking = false;
-        let has_ended = timed_out && state.running > MIN_THREADS && !state.is_unattended();
+        let has_ended = timed_out && !state.is_unattended();
         if has_ended {
             state.running = state.running.saturating_sub(1);
         }

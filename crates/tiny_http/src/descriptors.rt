@@ -1,27 +1,32 @@
 //! Whether the process may open as many descriptors as a server's limit on connections needs.
-use mio::{Poll, Registry};
-use std::alloc::Global;
-use std::io;
-use std::net::Net;
+use libc::types::rlimit;
+use libc::{RLIMIT_NOFILE, getrlimit};
 
 // Number of connections up to which the system is assumed to allow enough descriptors: most systems allow a process
 // 1,024.
 const ORDINARY: usize = 1_000;
 
-/// Returns how many more descriptors the process may open, up to `most`: opens one, then that many copies of it, all
-/// for a moment. Returns `most`, without opening any, if it is at most 1,000. Fails if memory can't be allocated, or if
-/// the first descriptor can't be opened.
-pub(crate) fn openable<R: Net>(rt: &R, alloc: Global, most: usize) -> io::Result<usize> {
-    if most <= ORDINARY {
-        return Ok(most);
+// Number of descriptors that a process needs beside those of its connections: three standard streams, a server's four,
+// and three of a call to `serve`.
+const OTHERS: u64 = 10;
+
+/// Returns the maximum number of descriptors of the process (`ulimit -n`), if it is too small for this number of
+/// connections. Returns `None` for at most 1,000 connections, for `usize::MAX`, which means no limit, and if the system
+/// doesn't tell the maximum.
+pub(crate) fn too_few_descriptors(connections: usize) -> Option<u64> {
+    if connections <= ORDINARY || connections == usize::MAX {
+        return None;
     }
-    let poll = Poll::new(rt)?;
-    let mut opened: Vec<Registry> = Vec::new(alloc);
-    for count in 0..most {
-        match poll.registry().try_clone() {
-            Ok(descriptor) => opened.push(descriptor)?,
-            Err(_) => return Ok(count),
-        }
+    let mut limit = rlimit {
+        rlim_cur: 0,
+        rlim_max: 0,
+    };
+    if getrlimit(RLIMIT_NOFILE, &mut limit) != 0 {
+        return None;
     }
-    Ok(most)
+    let most = limit.rlim_cur;
+    if (connections as u64).saturating_add(OTHERS) <= most {
+        return None;
+    }
+    Some(most)
 }

@@ -6,7 +6,7 @@ use std::sync::atomic::{AtomicBool, Ordering};
 pub(crate) struct Ending {
     // Whether accepting has been ended: no further client is to be accepted.
     is_closed: AtomicBool,
-    // Whether `Server::stop` was called: the handler of `serve` still gets each request whose head has arrived.
+    // Whether `Server::stop` was called: the handler of `serve` still gets a request that a worker is reading.
     is_stopping: AtomicBool,
     // Whether the accepting thread accepts no further client.
     has_accepted_all: AtomicBool,

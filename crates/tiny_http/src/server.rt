@@ -5,7 +5,7 @@ ghost use Rattle.tiny_http.specs.Clock.{seconds_of};
 
 use crate::accepting::{Accepting, Message, Queuing};
 use crate::crew::Crew;
-use crate::descriptors::openable;
+use crate::descriptors::too_few_descriptors;
 use crate::ending::Ending;
 use crate::registry::{ConnectionRegistry, time_of};
 use httpdate::HttpDate;
@@ -111,12 +111,12 @@ pub enum ServerError {
     #[error("out of memory")]
     Memory,
     /// The limits allow more connections than the process can open descriptors for.
-    #[error("{connections} connections are allowed, but only {openable} descriptors can be opened: raise `ulimit -n`")]
+    #[error("{connections} connections are allowed, but only {descriptors} descriptors: raise `ulimit -n`")]
     TooFewDescriptors {
         /// The maximum number of connections.
         connections: usize,
-        /// The number of descriptors that can be opened.
-        openable: usize,
+        /// The maximum number of descriptors of the process.
+        descriptors: u64,
     },
 }
 
@@ -274,8 +274,8 @@ impl<R: ServerRuntime> Server<R> {
     /// the server waits and tries again. If the address is the path of a Unix socket on which no process listens, the
     /// socket's file is removed first.
     ///
-    /// If the limits allow more than 1,000 connections, the call opens that many descriptors for a moment, and fails
-    /// with `TooFewDescriptors` if the process can't open them all.
+    /// Fails with `TooFewDescriptors` if the limits allow more than 1,000 connections, but not `usize::MAX`, and the
+    /// process may not open that many descriptors and ten more.
     pub fn with(
         rt: R,
         alloc: Global,
@@ -380,15 +380,13 @@ impl<R: ServerRuntime> Server<R> {
         if ssl.is_some() {
             return Err(ServerError::Ssl);
         }
-        if let Some(limits) = &limits {
-            let connections = limits.connections;
-            let openable = openable(&rt, alloc, connections)?;
-            if openable < connections {
-                return Err(ServerError::TooFewDescriptors {
-                    connections,
-                    openable,
-                });
-            }
+        if let Some(limits) = &limits
+            && let Some(descriptors) = too_few_descriptors(limits.connections)
+        {
+            return Err(ServerError::TooFewDescriptors {
+                connections: limits.connections,
+                descriptors,
+            });
         }
         Ok(Server::over(rt, alloc, profile, limits, listener)?)
     }
@@ -524,7 +522,7 @@ impl<R: Net<Listener = TcpListener, Stream = TcpStream> + SocketFiles + Wait + C
 > {
     /// Stops the server, from any thread. No further client is accepted, connections that wait for a head are closed,
     /// clients that wait for a call to `serve` are disconnected, and requests in the queue are dropped, so that they
-    /// get a 500. The handler of `serve` still gets each request whose head has been read. A connection with an open
+    /// get a 500. The handler of `serve` still gets a request that is being read, if it has no body. A connection with an open
     /// request is closed after its last response, which says so under `Standard` unless that response had already
     /// begun.
     ///

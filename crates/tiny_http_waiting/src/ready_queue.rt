@@ -1,6 +1,6 @@
 //! The queue of the tasks that are ready to be run, from which each worker prefers to take those of some tokens.
 ghost use Rattle.std.specs.Prelude.{◌≡◌, ◌⊎◌, ◌↔◌, [], OnOk, OnErr, IfErr, IfSome, IfNone, IsTrue, length};
-ghost use Rattle.tiny_http_waiting.specs.ReadyQueue.{Pushes, Pops, IsSoonAt};
+ghost use Rattle.tiny_http_waiting.specs.ReadyQueue.{Pushes, Pops, IsPreferredAt};
 
 use std::alloc::Global;
 use std::collections::VecDeque;
@@ -32,18 +32,17 @@ pub struct ReadyQueue<T> {
 }
 
 impl<T> Model for ReadyQueue<T> {
-    ghost use Rattle.std.specs.Prelude.{List};
-    ghost use Rattle.tiny_http_waiting.specs.declared.ready_queue.Turn.{Turn};
+    ghost use Rattle.tiny_http_waiting.specs.ReadyQueue.{Ready};
 
-    ghost Value = { List (Turn T) };
+    ghost Value = { Ready T };
 
-    ghost view = { λ q. q.turns.items };
+    ghost view = { λ q. record { turns = q.turns.items; added = q.added } };
 }
 
 impl<T: Drop> ReadyQueue<T> {
     /// Returns a queue without tasks.
     pub fn new(alloc: Global) -> ReadyQueue<T>
-        ensures { result ≡ [] }
+        ensures { result ≡ record { turns = []; added = 0 } }
     {
         ReadyQueue {
             turns: VecDeque::new(alloc),
@@ -55,14 +54,14 @@ impl<T: Drop> ReadyQueue<T> {
 impl<T> ReadyQueue<T> {
     /// Returns the number of tasks.
     pub fn len(&self) -> usize
-        ensures { result ≡ length self.now }
+        ensures { result ≡ length self.now.turns }
     {
         self.turns.len()
     }
 
     /// Returns whether there is no task.
     pub fn is_empty(&self) -> bool
-        ensures { IsTrue result ↔ (self.now ≡ []) }
+        ensures { IsTrue result ↔ (self.now.turns ≡ []) }
     {
         self.turns.is_empty()
     }
@@ -80,7 +79,7 @@ impl<T> ReadyQueue<T> {
         };
         match self.turns.push_back(turn) {
             Ok(()) => {
-                self.added = self.added.wrapping_add(1);
+                self.added = self.added.saturating_add(1);
                 Ok(())
             }
             Err(refused) => Err(refused.value.task),
@@ -91,8 +90,8 @@ impl<T> ReadyQueue<T> {
     /// memory in the caches of one processor. At most `MOST_OVERTAKING` tasks that were added later are taken before
     /// the first one.
     pub fn pop(&mut self, worker: usize) -> Option<Turn<T>>
-        ensures none { IfNone result ((self.old ≡ []) × (self.new ≡ self.old)) }
-        ensures some { IfSome result (λ turn. Pops self.old turn self.new) }
+        ensures none { IfNone result ((self.old.turns ≡ []) × (self.new ≡ self.old)) }
+        ensures some { IfSome result (λ turn. Pops worker self.old turn self.new) }
     {
         let place = self.place_for(worker);
         self.turns.remove(place)
@@ -100,7 +99,7 @@ impl<T> ReadyQueue<T> {
 
     // Returns the place of the first task that the worker prefers and may take, or 0 if there is none.
     fn place_for(&self, worker: usize) -> usize
-        ensures { (result ≡ 0) ⊎ IsSoonAt self.now result }
+        ensures { (result ≡ 0) ⊎ IsPreferredAt worker self.now.turns result }
     {
         let Some(first) = self.turns.front() else {
             return 0;
