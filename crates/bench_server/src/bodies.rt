@@ -117,7 +117,8 @@ impl Data {
 }
 
 impl<R: DataFiles + Clock + Wait + Drop> Handler<R, ServerRequest<R>> for Data {
-    /// Answers a request. Drops it if its body is cut or broken, if memory is refused, or if the file can't be opened.
+    /// Answers a request. Drops it if its body is cut or broken, if memory can't be allocated, or if the file can't be
+    /// opened.
     fn handle(&self, rt: &R, alloc: Global, request: ServerRequest<R>) -> io::Result<()> {
         match (request.method(), request.url()) {
             (Method::Put | Method::Post, _) => answer_length(rt, alloc, request),

@@ -2,9 +2,9 @@
 //!
 //! `bench_server [--lenient|--strict|--standard] [--connections N] ADDRESS` answers every request with `hello world`,
 //! through a handler. Requests are read under the named profile, by default `Standard`, and clients have the default
-//! limits, but at most N connections, by default 1,000, which may all have one address. Once a minute, and when it stops, the server prints its counts; it
-//! keeps serving if nobody reads them. A line `stop` on standard input stops it; it waits at most 10 seconds for open
-//! requests and connections.
+//! limits, but at most N connections, by default 1,000, which may all have one address. Once a minute, and when it
+//! stops, the server prints its counts; it keeps serving if nobody reads them. A line `stop` on standard input stops
+//! it; it waits at most 10 seconds for open requests and connections.
 //!
 //! `bench_server --bodies recv|serve ADDRESS FILE` reads bodies and sends long bodies (module `bodies`).
 #![tactic(auto)]
@@ -52,7 +52,7 @@ pub enum BenchFault {
     /// Serving failed, or the file to send can't be read.
     #[error("cannot serve: {0}")]
     Serving(io::Error),
-    /// Memory was refused, or a thread could not be started.
+    /// Memory couldn't be allocated, or a thread could not be started.
     #[error("out of memory")]
     OutOfMemory,
 }
@@ -92,7 +92,7 @@ impl From<AllocError> for BenchFault {
 struct Hello;
 
 impl<R: Wait + Clock + Drop> Handler<R, ServerRequest<R>> for Hello {
-    /// Answers a request, or drops it if memory for the response is refused.
+    /// Answers a request, or drops it if memory for the response can't be allocated.
     fn handle(&self, rt: &R, alloc: Global, request: ServerRequest<R>) -> io::Result<()> {
         let text = String::from_str(alloc, "hello world")?;
         let response = Response::from_string(alloc, text)?;
@@ -291,8 +291,8 @@ fn report<E: Write>(fault: &BenchFault, err: &mut E) -> u8 {
 
 /// Listens on the address in the arguments, and answers every request with `hello world` until a line `stop` arrives on
 /// `input`. Another thread prints the server's address and counts on `out`. Returns the exit status: 0; 2 if the
-/// arguments aren't `[--lenient|--strict|--standard] ADDRESS`; 1 if the server can't listen, serving fails, memory is
-/// refused, or a thread can't be started. A line on `err` reports the error.
+/// arguments aren't `[--lenient|--strict|--standard] ADDRESS`; 1 if the server can't listen, serving fails, memory
+/// can't be allocated, or a thread can't be started. A line on `err` reports the error.
 pub fn serve_hello<R, I, O, E: Write>(
     rt: R,
     alloc: Global,

@@ -3,8 +3,8 @@
 //! It accepts `GET` and `HEAD`. A request for a folder is answered with its `index.html` or a list of its entries, or,
 //! if the path has no slash at its end, with a redirect to the path with one. A request for something that can't be
 //! read, is outside the folder, or is neither a file nor a folder is answered with 404. A file that shrinks while it is
-//! sent ends its connection, since its length has already been sent. If memory is refused, the response is a 404, or
-//! the empty 500 of a dropped request.
+//! sent ends its connection, since its length has already been sent. If memory can't be allocated, the response is a
+//! 404, or the empty 500 of a dropped request.
 //!
 //! The program shows a path that stays within the folder (`below_folder`), a file of any length that isn't sent in
 //! chunks (`with_chunked_threshold`), a 304 without content (`contentless`), and headers added by `with`.

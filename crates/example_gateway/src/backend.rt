@@ -85,7 +85,7 @@ impl<Rt: Clock> Backend<'_, Rt> {
     }
 
     // Returns the next head and its length in bytes, or `None` if the head is incomplete. Fails with `InvalidData` if
-    // the head is malformed, and with `InvalidData` or `OutOfMemory` if memory is refused.
+    // the head is malformed, and with `InvalidData` or `OutOfMemory` if memory can't be allocated.
     fn next_head(&self) -> io::Result<Option<(AnswerHead, usize)>> {
         let front = self.front.as_slice();
         if let Ok(found) = read_answer_head(self.alloc, front) {

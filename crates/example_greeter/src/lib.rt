@@ -34,7 +34,8 @@ fn status_of(head: &Head) -> StatusCode
 /// `now`, until no request is handed out. Heads are read under `Lenient`.
 ///
 /// Returns the reader and the writer with their buffers, and the last reply, which handed out no request: `Ended`, or
-/// `Memory` if memory for a head was refused. After 2^64 - 1 requests it stops, and returns `None` for the reply.
+/// `Memory` if memory for a head couldn't be allocated. After 2^64 - 1 requests it stops, and returns `None` for the
+/// reply.
 pub fn serve<R: ReadDevice + Drop, W: WriteDevice + Drop>(
     alloc: Global,
     reader: R,
@@ -63,7 +64,7 @@ pub fn serve<R: ReadDevice + Drop, W: WriteDevice + Drop>(
 }
 
 /// Serves a client in memory that sends these bytes and ends. Returns the writer with its buffer, and the last reply.
-/// The writer fails if memory for its bytes is refused.
+/// The writer fails if memory for its bytes can't be allocated.
 pub fn serve_bytes(alloc: Global, bytes: Vec<u8>, now: HttpDate) -> (Outlet<Budget>, Option<Reply>)
     ensures { GreetsClient bytes.items now (outlet_writer result.0) (outlet_held result.0) (outlet_ended result.0)
         result.1 }

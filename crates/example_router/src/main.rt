@@ -2,8 +2,8 @@
 //!
 //! `GET /notes` lists the notes, `POST /notes` adds a note from `{"text": ..}`, and `GET` and `DELETE` of `/notes/{id}`
 //! return and remove a note. `GET /events` sends the notes as server-sent events. Errors that the handler finds in a
-//! request are reported as JSON. If reading the body fails otherwise, or memory is refused before a response has begun,
-//! the request is dropped, which answers it with an empty 500.
+//! request are reported as JSON. If reading the body fails otherwise, or memory can't be allocated before a response
+//! has begun, the request is dropped, which answers it with an empty 500.
 //!
 //! The program shows routes with `matchit`, JSON with `serde_json`, state shared by threads, a body read whole
 //! (`read_body`), a body that grows while it is sent (`respond_streaming`), and a handler of any `Request`.

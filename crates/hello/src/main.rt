@@ -26,7 +26,8 @@ use tiny_http::serving::Handler;
 struct HelloWorld;
 
 impl<R: Clock + Wait + Drop> Handler<R, ServerRequest<R>> for HelloWorld {
-    /// Answers a request, or drops it if memory for the response is refused. A disconnected client is not an error.
+    /// Answers a request, or drops it if memory for the response can't be allocated. A disconnected client is not an
+    /// error.
     fn handle(&self, rt: &R, alloc: Global, request: ServerRequest<R>) -> io::Result<()> {
         let text = String::from_str(alloc, "hello world")?;
         request.respond(Response::from_string(alloc, text)?, current_date(rt))

@@ -14,7 +14,7 @@ fn add_refused(alloc: Global, to: &mut Vec<Finding>) -> Result<(), AllocError> {
     add(alloc, to, "refused", b"")
 }
 
-// Adds that the text was refused. Fails if memory was refused instead.
+// Adds that the text was refused. Fails if memory couldn't be allocated instead.
 fn add_fault(alloc: Global, to: &mut Vec<Finding>, fault: ParseError) -> Result<(), AllocError> {
     match fault {
         ParseError::Refused => add_refused(alloc, to),

@@ -113,7 +113,7 @@ impl<R: Wait + Clock + Drop> Handler<R, ServerRequest<R>> for ByPath<R> {
     /// `/long`, with three of ten stated bytes for `/short`, and upgrades it for `/greet`. Responds to any other
     /// request with its target as the body: for `/wait` after `wait_at`, and for `/close` with a response that closes
     /// the connection. Returns an error for `/err`, once it has responded, and for `/drop-err`. Also returns an error
-    /// if reading or responding fails, or if memory is refused.
+    /// if reading or responding fails, or if memory can't be allocated.
     fn handle(&self, rt: &R, alloc: Global, request: ServerRequest<R>) -> io::Result<()> {
         let path = request.url();
         if self.keeps_all.load(Ordering::SeqCst) || path == "/keep" {

@@ -126,7 +126,7 @@ fn play_file<R: Host, O: Write>(
 }
 
 // Plays the scenes of all files. Returns the exit status: 0 if no scene had the wrong outcome, 3 if one had, and 1 if
-// `out` can't be written or memory is refused.
+// `out` can't be written or memory can't be allocated.
 fn play_files<R: Host, O: Write>(
     rt: &R,
     alloc: Global,

@@ -179,7 +179,7 @@ fn push_all<R: Wait>(rt: &R, queue: &MessagesQueue<Numbered>, pusher: usize) -> 
     refused
 }
 
-// Pops values up to the first mark. Returns the values in order, or `None` if memory is refused.
+// Pops values up to the first mark. Returns the values in order, or `None` if memory can't be allocated.
 fn pop_all<R: Wait>(
     rt: &R,
     alloc: Global,

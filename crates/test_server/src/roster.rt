@@ -25,7 +25,7 @@ struct Shared<'a, L: Ledger, R: Net + SocketFiles + Wait + Clock + Drop> {
     roster: &'a Roster<L>,
 }
 
-// Responds to a request with its path, or drops the request if memory is refused.
+// Responds to a request with its path, or drops the request if memory can't be allocated.
 fn answer_path<R: Host>(rt: &R, alloc: Global, request: ServerRequest<R>) {
     if let Ok(path) = String::from_str(alloc, request.url()) {
         respond(rt, alloc, request, path.as_str());

@@ -209,8 +209,8 @@ impl<R: Wait + Clock + Copy> Accepting<R> {
         self.crew.add(&rt, alloc, reading, Some(socket), until);
     }
 
-    // Returns the client of this connection, or `None` if memory is refused, a limit refuses the client, or the server
-    // was closed. Sets TCP_NODELAY so that small responses are sent at once, and ignores a failure to set it.
+    // Returns the client of this connection, or `None` if memory can't be allocated, a limit refuses the client, or the
+    // server was closed. Sets TCP_NODELAY so that small responses are sent at once, and ignores a failure to set it.
     fn client(&self, connection: Connection, remote_addr: Option<SocketAddr>) -> Option<Client<R>> {
         let _ = connection.set_nodelay(true);
         let (rt, alloc) = (self.rt, self.alloc);
@@ -265,8 +265,8 @@ impl<R: Wait + Clock + Copy> Accepting<R> {
         Some((TimedReader::new(rt, reader, socket, shared), writer))
     }
 
-    // Counts a client of this address as connected. Returns `None` if a limit refuses the client, memory is refused, or
-    // the server was closed before the client was registered.
+    // Counts a client of this address as connected. Returns `None` if a limit refuses the client, memory can't be
+    // allocated, or the server was closed before the client was registered.
     fn enter(
         &self,
         remote_addr: Option<SocketAddr>,

@@ -38,7 +38,8 @@ pub(crate) struct Client<R: Wait + Clock + Drop> {
 }
 
 impl<R: Wait + Clock + Copy> Client<R> {
-    // Sends what is held, and waits until all the client's requests are answered. Returns false if memory is refused.
+    // Sends what is held, and waits until all the client's requests are answered. Returns false if memory can't be
+    // allocated.
     fn is_answered(&mut self) -> bool {
         self.cork.send();
         self.connection.wait_for_answers().is_ok()

@@ -92,7 +92,7 @@ impl<T: Drop> CrewState<T> {
         self.poller.is_some() || !self.ready.is_empty()
     }
 
-    // Adds a task's token. Fails if memory is refused.
+    // Adds a task's token. Fails if memory can't be allocated.
     fn enter(&mut self) -> Result<usize, AllocError> {
         let token = self.table.enter()?;
         for _ in self.ended.len()..=token {
@@ -147,7 +147,7 @@ impl<T: Drop> CrewState<T> {
         self.table.wait(token, task, until)
     }
 
-    // Adds a task to be run. If memory is refused, returns the task.
+    // Adds a task to be run. If memory can't be allocated, returns the task.
     fn add_ready(&mut self, token: usize, task: Box<T>, is_late: bool) -> Option<Box<T>> {
         let turn = Turn {
             token,
@@ -334,7 +334,7 @@ impl<T: Task + Drop> Crew<T> {
     }
 
     /// Adds a task, with the socket whose events it waits for, if it has one. It first waits until this time, or,
-    /// without a time, is run at once. If memory or a system call is refused, drops the task.
+    /// without a time, is run at once. If memory can't be allocated or a system call fails, drops the task.
     pub fn add<R: Wait>(
         &self,
         rt: &R,
@@ -368,7 +368,7 @@ impl<T: Task + Drop> Crew<T> {
             .is_ok()
     }
 
-    // Makes a task wait until this time, or run at once. Returns the task if memory is refused.
+    // Makes a task wait until this time, or run at once. Returns the task if memory can't be allocated.
     fn begin<R: Wait>(
         &self,
         rt: &R,
@@ -414,7 +414,7 @@ fn take_late<T: Drop>(state: &mut CrewState<T>, now: Duration) {
     }
 }
 
-// Makes a task ready. If memory is refused, drops the task, which is then over.
+// Makes a task ready. If memory can't be allocated, drops the task, which is then over.
 fn make_ready<T: Drop>(state: &mut CrewState<T>, token: usize, task: Box<T>, is_late: bool) {
     if let Some(refused) = state.add_ready(token, task, is_late) {
         drop(refused);
@@ -424,8 +424,8 @@ fn make_ready<T: Drop>(state: &mut CrewState<T>, token: usize, task: Box<T>, is_
 
 impl<T: Task + Drop + Send + 'static> Crew<T> {
     /// Starts the least workers and the watcher of a crew with at most `most` workers. Fails with `OutOfMemory` if
-    /// memory is refused, with `WouldBlock` if a thread can't be created, and with the system's error if it has no
-    /// descriptor for the crew; threads that were started end then.
+    /// memory can't be allocated, with `WouldBlock` if a thread can't be created, and with the system's error if it has
+    /// no descriptor for the crew; threads that were started end then.
     pub fn start<R: Net + Threads + Wait + Clock + Copy + Send + 'static>(
         rt: R,
         alloc: Global,

@@ -8,7 +8,7 @@ use std::net::Net;
 const ORDINARY: usize = 1_000;
 
 /// Returns how many more descriptors the process may open, up to `most`: opens that many for a moment. Returns `most`,
-/// without opening any, if it is at most 1,000. Fails if memory is refused, or if not even two can be opened.
+/// without opening any, if it is at most 1,000. Fails if memory can't be allocated, or if not even two can be opened.
 pub(crate) fn openable<R: Net>(rt: &R, alloc: Global, most: usize) -> io::Result<usize> {
     if most <= ORDINARY {
         return Ok(most);

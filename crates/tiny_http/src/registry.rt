@@ -40,7 +40,7 @@ pub(crate) struct ConnectionRegistry {
 }
 
 impl ConnectionRegistry {
-    /// Returns an empty registry. Fails if memory is refused.
+    /// Returns an empty registry. Fails if memory can't be allocated.
     pub fn new(
         alloc: Global,
         limits: Option<&Limits>,
@@ -108,7 +108,7 @@ impl ConnectionRegistry {
         self.changed.notify_all();
     }
 
-    // Adds a client and returns its number, or `None` if a limit refuses the client or memory is refused.
+    // Adds a client and returns its number, or `None` if a limit refuses the client or memory can't be allocated.
     fn enter<R: Wait>(
         &self,
         rt: &R,
@@ -198,8 +198,8 @@ pub(crate) struct ConnectionGuard<R: Wait + Clock + Drop> {
 }
 
 impl<R: Wait + Clock + Drop> ConnectionGuard<R> {
-    /// Counts a client of this address as connected. Returns `None` if a limit refuses the client, memory is refused,
-    /// or no further handle to the registry can be made.
+    /// Counts a client of this address as connected. Returns `None` if a limit refuses the client, memory can't be
+    /// allocated, or no further handle to the registry can be made.
     pub fn enter(
         rt: R,
         registry: &Arc<ConnectionRegistry>,

@@ -172,7 +172,7 @@ impl ServerConfig {
     ghost use Rattle.std.specs.Prelude.{IfOk};
     ghost use Rattle.tiny_http.specs.ServerConfig.{IsConfigCopy};
 
-    /// Returns a copy. Fails if memory is refused.
+    /// Returns a copy. Fails if memory can't be allocated.
     pub fn try_clone(&self) -> Result<ServerConfig, AllocError>
         ensures { IfOk result (λ copy. IsConfigCopy self.now copy) }
     {
@@ -189,7 +189,7 @@ impl SslConfig {
     ghost use Rattle.std.specs.Prelude.{IfOk};
     ghost use Rattle.tiny_http.specs.ServerConfig.{IsSslCopy};
 
-    /// Returns a copy. Fails if memory is refused.
+    /// Returns a copy. Fails if memory can't be allocated.
     pub fn try_clone(&self) -> Result<SslConfig, AllocError>
         ensures { IfOk result (λ copy. IsSslCopy self.now copy) }
     {
@@ -314,8 +314,8 @@ impl<R: ServerRuntime> Server<R> {
     /// dropped.
     ///
     /// Fails with `Ssl` if there are TLS settings, with `Io` if the socket has no address or the system has no thread
-    /// or descriptor for the server, and with `Memory` if memory is refused. If it fails, the file of a Unix socket
-    /// stays.
+    /// or descriptor for the server, and with `Memory` if memory can't be allocated. If it fails, the file of a Unix
+    /// socket stays.
     pub fn from_listener(
         rt: R,
         alloc: Global,
@@ -504,7 +504,7 @@ impl<R: Net + SocketFiles + Wait + Clock + Drop> Server<R> {
         Message::received(&self.queuing.messages, &self.rt, popped)
     }
 
-    /// Makes one call that waits for a request, now or later, return without one. Fails if memory is refused.
+    /// Makes one call that waits for a request, now or later, return without one. Fails if memory can't be allocated.
     pub fn unblock(&self) -> Result<(), AllocError> {
         self.queuing.messages.unblock(&self.rt)
     }

@@ -145,9 +145,9 @@ impl<R: ServerRuntime> Server<R> {
 impl<R: Host> Server<R> {
     /// Responds with this handler on `threads` threads, each of which receives one request after another, until
     /// `unblock` is called once, the server has been stopped, or accepting ends with an error, which is returned. It
-    /// returns when all threads have ended, each after its last response. It also fails if memory is refused; the
-    /// threads that were started have ended by then. It returns at once, as `recv` does, if `serve` was called before
-    /// and a client waits for its next call.
+    /// returns when all threads have ended, each after its last response. It also fails if memory can't be allocated;
+    /// the threads that were started have ended by then. It returns at once, as `recv` does, if `serve` was called
+    /// before and a client waits for its next call.
     ///
     /// This is the loop over `recv` that a program would write. Each response is sent when the handler makes it, and a
     /// request may be kept and answered later. An error of the handler is ignored. With 0 threads nothing is answered.

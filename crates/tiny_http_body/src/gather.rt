@@ -41,7 +41,8 @@ pub(crate) fn fill<D: ReadDevice>(source: &mut D, buf: &mut [u8]) -> Result<usiz
     Ok(at)
 }
 
-/// Reads all the data into memory. Fails with the fault of the data, or with `OutOfMemory` if memory is refused.
+/// Reads all the data into memory. Fails with the fault of the data, or with `OutOfMemory` if memory can't be
+/// allocated.
 pub fn gather<D: ReadDevice>(alloc: Global, source: &mut D) -> Result<Vec<u8>, io::Error>
     ensures gathers { IfSome (D.feed source.old)
         (λ feed. length feed.bytes < 2 ^ 63 → Gathers (λ v. v.items) feed result) }

@@ -31,7 +31,7 @@ pub enum AnswerFault {
     /// The bytes break a rule of the grammar.
     #[error("malformed")]
     Malformed,
-    /// Memory for the response was refused.
+    /// Memory for the response couldn't be allocated.
     #[error("out of memory")]
     Memory,
 }

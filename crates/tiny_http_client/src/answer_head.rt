@@ -31,7 +31,7 @@ pub enum AnswerHeadFault {
     /// The bytes break a rule of the grammar, a value has a byte that isn't ASCII, or there are more than 64 headers.
     #[error("malformed")]
     Malformed,
-    /// Memory for the headers was refused.
+    /// Memory for the headers couldn't be allocated.
     #[error("out of memory")]
     Memory,
 }
@@ -48,7 +48,7 @@ impl From<AllocError> for AnswerHeadFault {
 }
 
 // Copies the headers at these spans. Fails with `Malformed` if a byte of a name or a value isn't ASCII, and only then;
-// with `Memory` if memory is refused.
+// with `Memory` if memory can't be allocated.
 fn headers_at(
     alloc: Global,
     bytes: &[u8],
@@ -82,7 +82,7 @@ fn headers_at(
 /// # Errors
 /// - `Malformed` if no further bytes can complete the head, or if there are more than 64 headers; once the head is
 ///   complete, also if a value has a byte that isn't ASCII.
-/// - `Memory` if memory for the headers is refused.
+/// - `Memory` if memory for the headers can't be allocated.
 pub fn read_answer_head(
     alloc: Global,
     bytes: &[u8],

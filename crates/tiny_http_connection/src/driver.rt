@@ -92,7 +92,7 @@ pub enum Reply {
     /// byte reports the end with an empty `Given`, or the fault with `Fault`.
     Given(Vec<u8>),
     /// The body ends with this fault, or the writer or the response's data failed with it. It is `OutOfMemory` if
-    /// memory for the data of a `Respond` was refused.
+    /// memory for the data of a `Respond` couldn't be allocated.
     Fault(ErrorKind),
     /// The step has to wait, and nothing has changed. An `Ask` waits for the last body to be read or given up, or for
     /// the response to a request that asks for an upgrade. A `Respond` or an `Upgrade` that isn't refused, a `Write`, a
@@ -279,11 +279,11 @@ impl<R: ReadDevice, W: WriteDevice> Connection<R, W> {
     /// exception: after a head that is refused with 505 the same call reads the next head, unless that head names an
     /// upgrade, its body is chunked, or the profile is `Standard`.
     ///
-    /// Returns `Memory` if memory is refused, which ends the requests too. The requests also end after a response that
-    /// was made with `with_close`, and after a chunked body that was given up before its end was reported. Under
-    /// `Standard` they also end after a request that asked for an upgrade, once it is upgraded or its raw writer is
-    /// taken, and after a request that is answered or dropped, or whose raw writer is taken, while its 100 is owed or
-    /// more than 65,536 bytes of a body with a `Content-Length` are unread.
+    /// Returns `Memory` if memory can't be allocated, which ends the requests too. The requests also end after a
+    /// response that was made with `with_close`, and after a chunked body that was given up before its end was
+    /// reported. Under `Standard` they also end after a request that asked for an upgrade, once it is upgraded or its
+    /// raw writer is taken, and after a request that is answered or dropped, or whose raw writer is taken, while its
+    /// 100 is owed or more than 65,536 bytes of a body with a `Content-Length` are unread.
     ///
     /// The call waits for the client only until the head and a body of up to 1024 bytes have come, or only the head if
     /// the request expects a 100. Before that it waits for the rest of a body with a content length that was given up
@@ -355,8 +355,8 @@ impl<R: ReadDevice, W: WriteDevice> Connection<R, W> {
     /// If the body is cut or broken, the read after its last byte returns `Fault`, as does each later read; a body with
     /// a `Content-Length` that the end of input cuts has a fault under `Standard`, and otherwise ends there. Returns
     /// `NoSuch` if this number neither awaits its response nor has the stream of an upgrade, or while its 100 is owed.
-    /// Returns `Memory` if memory for `count` bytes is refused; then nothing has changed. If `count` is 0, it returns
-    /// `NoSuch` or an empty `Given`.
+    /// Returns `Memory` if memory for `count` bytes can't be allocated; then nothing has changed. If `count` is 0, it
+    /// returns `NoSuch` or an empty `Given`.
     #[inline(never)]
     pub fn read(&mut self, alloc: Global, number: u64, count: u16) -> Reply
         ensures step { (date : Date) → TakesStep self.old self.new date (Step.Read number count) (seen result) }
@@ -428,8 +428,8 @@ impl<R: ReadDevice, W: WriteDevice> Connection<R, W> {
     /// Responds to the request of this number, gives up its body, and returns `Done`. `now` is the response's `Date`.
     /// Returns `Fault` if the writer failed while the response was sent, or the response's data broke off; then nothing
     /// more is sent on the connection, and later responses are `Done` and unsent. For a fault that means that the
-    /// client has disconnected, the reply is `Done`. If memory is refused for data that have to be read whole before
-    /// the head is sent, the fault is `OutOfMemory`.
+    /// client has disconnected, the reply is `Done`. If memory can't be allocated for data that have to be read whole
+    /// before the head is sent, the fault is `OutOfMemory`.
     ///
     /// Returns `NotYet` while a number before this one isn't finished, and `NoSuch` if this number doesn't await its
     /// response; then the response is dropped, and nothing has changed. Under `Standard` it returns `Refused`, in the

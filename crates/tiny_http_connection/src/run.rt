@@ -21,8 +21,8 @@ pub struct Record<R: ReadDevice, W: WriteDevice> {
     pub outlet: Outlet<W>,
 }
 
-/// An error of a run: memory for the replies was refused, and nothing was read or written. A run of no steps doesn't
-/// fail.
+/// An error of a run: memory for the replies couldn't be allocated, and nothing was read or written. A run of no steps
+/// doesn't fail.
 #[derive(Drop)]
 pub struct RunError<R, W> {
     /// The reader, unchanged.
@@ -50,7 +50,7 @@ fn room_for(alloc: Global, count: usize) -> Result<Vec<Reply>, AllocError>
 /// segment for each request or refused head, in order, up to the first that isn't finished or that a fault cuts short.
 /// If the writer failed, the output is a prefix of these segments.
 ///
-/// Fails if memory for the replies is refused.
+/// Fails if memory for the replies can't be allocated.
 pub fn run<R: ReadDevice + Drop, W: WriteDevice + Drop, D: ReadDevice + Drop>(
     alloc: Global,
     reader: R,
@@ -74,7 +74,7 @@ pub fn run<R: ReadDevice + Drop, W: WriteDevice + Drop, D: ReadDevice + Drop>(
 /// segment for each request or refused head, in order, up to the first that isn't finished or that a fault cuts short.
 /// If the writer failed, the output is a prefix of these segments.
 ///
-/// Fails if memory for the replies is refused.
+/// Fails if memory for the replies can't be allocated.
 pub fn run_with<R: ReadDevice + Drop, W: WriteDevice + Drop, D: ReadDevice + Drop>(
     alloc: Global,
     profile: Profile,

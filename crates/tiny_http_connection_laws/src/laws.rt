@@ -169,7 +169,7 @@ pub fn steps_are_taken_in_turn()
 
 /// THE END HAS A REASON. If an `Ask` reports the end, every request of the pipeline was handed out, and each refused
 /// head has a number; or a number stops the requests, such as one whose chunked body was given up before its end was
-/// reported; or a step ended them: memory was refused, or a response asked to close the connection.
+/// reported; or a step ended them: memory couldn't be allocated, or a response asked to close the connection.
 pub fn the_end_has_a_reason()
     ensures reason { (p : Profile) (feed : Feed) (before after : Sink) (steps : List TimedValue)
         (replies : List ReplyValue) (held : List ℕ) (ended : Bool) (unread : Option Feed)

@@ -39,7 +39,7 @@ pub fn is_unsafe(path: &str) -> bool
 
 /// Returns the path of a file in a folder: `folder` and `path` joined as they are. `path` must be the request's path
 /// (`Request::path`), percent-decoded. Returns `None` if `path` doesn't begin with a slash, or is unsafe (`is_unsafe`).
-/// Whether the file exists, or is a link, isn't checked. Fails if memory is refused.
+/// Whether the file exists, or is a link, isn't checked. Fails if memory can't be allocated.
 pub fn below_folder(alloc: Global, folder: &str, path: &str) -> Result<Option<String>, AllocError>
     ensures { IfOk result (λ found. option_map string_bytes found ≡ below_folder folder.now path.now) }
 {

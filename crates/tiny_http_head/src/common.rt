@@ -29,7 +29,7 @@ pub enum ParseError {
     /// The text doesn't match the grammar.
     #[error("not of the grammar")]
     Refused,
-    /// Memory for the result was refused.
+    /// Memory for the result couldn't be allocated.
     #[error("out of memory")]
     Memory,
 }
@@ -297,7 +297,7 @@ impl HeaderField {
     }
 
     /// Parses a name: any ASCII text without white space (bytes 9 to 13 and 32), even an empty one. Fails with
-    /// `Refused` for any other text, and only then; with `Memory` if memory for a copy is refused.
+    /// `Refused` for any other text, and only then; with `Memory` if memory for a copy can't be allocated.
     pub fn from_str(alloc: Global, text: &str) -> Result<HeaderField, ParseError>
         ensures ok { IfOk result (λ f. (f ≡ text.now) × IsWord text.now) }
         ensures refused { IsErrOf result ParseError.Refused ↔ ¬ (IsWord text.now) }
@@ -324,7 +324,7 @@ impl HeaderField {
         self.text.as_ascii()
     }
 
-    /// Copies the name. Fails if memory is refused.
+    /// Copies the name. Fails if memory can't be allocated.
     pub fn try_clone(&self) -> Result<HeaderField, AllocError>
         ensures { IfOk result (λ f. f ≡ self.now) }
     {
@@ -398,7 +398,8 @@ impl Method {
     ghost use Rattle.tiny_http_head.specs.Common.{method_text};
 
     /// Parses a method: one of the nine names in this exact case, or any other ASCII text, even an empty one. Fails
-    /// with `Refused` for a text that isn't ASCII, and only then; with `Memory` if memory for a copy is refused.
+    /// with `Refused` for a text that isn't ASCII, and only then; with `Memory` if memory for a copy can't be
+    /// allocated.
     pub fn from_str(alloc: Global, text: &str) -> Result<Method, ParseError>
         ensures ok { IfOk result (λ m. (m ≡ method_of text.now) × AreAscii text.now) }
         ensures refused { IsErrOf result ParseError.Refused ↔ ¬ (AreAscii text.now) }
@@ -411,7 +412,7 @@ impl Method {
         Ok(method)
     }
 
-    /// Copies the method. Fails if memory is refused.
+    /// Copies the method. Fails if memory can't be allocated.
     pub fn try_clone(&self) -> Result<Method, AllocError>
         ensures { IfOk result (λ m. m ≡ self.now) }
     {
@@ -479,7 +480,7 @@ impl Header {
     /// even if they contain text from a client. The name must be a token (RFC 9110, section 5.6.2): one or more ASCII
     /// letters, digits or bytes of ``!#$%&'*+-.^_`|~``. The value must consist of visible ASCII bytes, spaces and tabs,
     /// without a space or tab at its ends; it may be empty (RFC 9110, section 5.5). Fails with `Refused` for any other
-    /// name or value, such as one with CR, LF or NUL, and only then; with `Memory` if memory is refused.
+    /// name or value, such as one with CR, LF or NUL, and only then; with `Memory` if memory can't be allocated.
     #[tactic(auto, using(crate::proofs::HeaderTextsLemmas::token_ascii))]
     pub fn new(alloc: Global, name: &str, value: &str) -> Result<Header, ParseError>
         ensures ok { IfOk result (λ h. (h ≡ header_of name.now value.now) × AreHeaderTexts name.now value.now) }
@@ -512,7 +513,7 @@ impl Header {
     /// Parses a field line without its CR LF: the name is the text before the first colon, and the value is the text
     /// after it, without white space (bytes 9 to 13 and 32) at its ends (RFC 9112, section 5). Fails with `Refused` if
     /// there is no colon, if the name contains white space, or if a byte isn't ASCII, and only then; with `Memory` if
-    /// memory is refused.
+    /// memory can't be allocated.
     pub fn from_str(alloc: Global, text: &str) -> Result<Header, ParseError>
         ensures ok { IfOk result (λ h. IsHeader text.now h) }
         ensures refused { IsErrOf result ParseError.Refused ↔ ((h : Header) → IsHeader text.now h → ⊥) }
@@ -527,7 +528,7 @@ impl Header {
         }
     }
 
-    /// Copies the header. Fails if memory is refused.
+    /// Copies the header. Fails if memory can't be allocated.
     pub fn try_clone(&self) -> Result<Header, AllocError>
         ensures { IfOk result (λ h. h ≡ self.now) }
     {
@@ -575,7 +576,7 @@ fn is_field_value(text: &[u8]) -> bool
 }
 
 /// Returns the method that an ASCII text names: one of the nine named variants if the text is its name in this exact
-/// case, and otherwise `NonStandard`. Fails if memory for a copy is refused.
+/// case, and otherwise `NonStandard`. Fails if memory for a copy can't be allocated.
 pub fn method_of(alloc: Global, text: &[u8]) -> Result<Method, AllocError>
     requires { AreAscii text.now }
     ensures { IfOk result (λ m. m ≡ method_of text.now) }
@@ -612,7 +613,7 @@ pub fn method_of(alloc: Global, text: &[u8]) -> Result<Method, AllocError>
 
 /// Parses a field line: the name is the text before the first colon, and the value is the text after it, without white
 /// space (bytes 9 to 13 and 32) at its ends (RFC 9112, section 5). Returns `None` if there is no colon, or if the name
-/// contains white space. Fails if the text is a field line and memory is refused.
+/// contains white space. Fails if the text is a field line and memory can't be allocated.
 pub fn parse_header_line(alloc: Global, text: &[u8]) -> Result<Option<Header>, AllocError>
     requires { AreAscii text.now }
     ensures value { IfOk result (λ found. found ≡ header_line text.now) }

@@ -310,7 +310,7 @@ impl Budget {
     ghost use Rattle.tiny_http_io.specs.Budget.{budget_bytes, budget_room, budget_kind, budget_sink};
 
     /// Makes a writer that takes `room` bytes and then fails with an error of this kind. A write fails with
-    /// `OutOfMemory` if memory for the bytes is refused.
+    /// `OutOfMemory` if memory for the bytes can't be allocated.
     pub fn new(alloc: Global, room: usize, kind: ErrorKind) -> Budget
         ensures sink { budget_sink result
             ≡ record { taken = Some []; sent = []; failures = 0; last_kind = None; has_ended = false } }
@@ -374,7 +374,7 @@ impl WriteDevice for Budget {
     }
 
     /// Takes as many bytes as there is room for. A nonempty write fails, and takes none, if there is no room or memory
-    /// is refused.
+    /// can't be allocated.
     fn write_out(&mut self, buf: &[u8]) -> Result<usize, io::Error>
         ensures puts { PutsFront (budget_sink self.old) (budget_sink self.new) result buf.now }
         ensures count { IfOk result (λ n. n ≡ min (length buf.now) (budget_room self.old)) }

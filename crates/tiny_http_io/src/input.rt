@@ -242,7 +242,7 @@ impl<R: ReadDevice> Input<R> {
     }
 
     // Takes a line of n buffered bytes, and consumes the CR LF after it. Fails with `Memory`, and changes nothing, if
-    // memory is refused.
+    // memory can't be allocated.
     fn take_line(&mut self, alloc: Global, n: usize) -> Result<Vec<u8>, LineFault>
         requires { n + 2 ≤ length self.old.held }
         ensures text { IfOk result (λ text. text.items ≡ take n self.old.held) }
@@ -364,7 +364,7 @@ impl<R: ReadDevice> Input<R> {
     }
 
     /// Takes exactly n bytes. If fewer are left, takes them all and returns `None`, and the input is over. Fails, and
-    /// changes nothing, if memory is refused.
+    /// changes nothing, if memory can't be allocated.
     pub fn take_exactly(&mut self, alloc: Global, n: usize) -> Result<Option<Vec<u8>>, AllocError>
         ensures takes { IfOk result
             (λ body. TakesExactly (λ v. v.items) n (input_feed R.feed self.old) (input_feed R.feed self.new) body) }

@@ -26,7 +26,7 @@ pub enum LineFault {
     TimedOut,
     /// The reader failed with an error of this kind before a CR LF.
     Broken(ErrorKind),
-    /// Memory for the line was refused. From then on the source is at its end.
+    /// Memory for the line couldn't be allocated. From then on the source is at its end.
     Memory,
 }
 
@@ -274,7 +274,7 @@ impl<R: ReadDevice> Source<R> {
     }
 
     /// Takes exactly n bytes. If fewer are left, takes them all and returns `None`, and the source is over. Fails, and
-    /// changes nothing, if memory is refused.
+    /// changes nothing, if memory can't be allocated.
     pub fn take_exactly(&mut self, alloc: Global, n: usize) -> Result<Option<Vec<u8>>, AllocError>
         ensures takes { TakesBytes n self.old self.new result }
         ensures calls { CallsReader R.stop_count self.old self.new }

@@ -33,7 +33,7 @@ pub enum Refusal {
     Full,
     /// The limit of open connections from its address is reached.
     AddressFull,
-    /// Memory was refused.
+    /// Memory couldn't be allocated.
     Memory,
 }
 
@@ -98,8 +98,8 @@ impl<T: Drop> ConnectionTable<T> {
     /// earlier connection had.
     ///
     /// Fails with `Full` if the limit is reached or no number is left; otherwise with `AddressFull` if the limit of the
-    /// address is reached; otherwise with `Memory` if memory is refused. A call that fails drops the item and changes
-    /// nothing else.
+    /// address is reached; otherwise with `Memory` if memory can't be allocated. A call that fails drops the item and
+    /// changes nothing else.
     pub fn enter(&mut self, address: Option<IpAddr>, item: T) -> Result<u64, Refusal>
         ensures { Enters self.old address item result self.new }
     {

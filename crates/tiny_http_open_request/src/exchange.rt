@@ -78,7 +78,7 @@ pub enum EndOfRequests {
     AbandonedBody,
     /// The previous body was neither read to its end nor discarded.
     UnreadBody,
-    /// Memory for the head or its response was refused.
+    /// Memory for the head or its response couldn't be allocated.
     Memory,
 }
 
@@ -156,8 +156,8 @@ impl Exchange {
     ///
     /// On an outlet that has ended this sends nothing, doesn't read the data, and returns `Ok`. Fails with the first
     /// fault of the data or the first fault of the writer (if both fail, it is unspecified which is returned), or with
-    /// `OutOfMemory` if memory for data of unknown length is refused. After a failure the outlet has ended; unless the
-    /// writer failed, the bytes that were held are sent.
+    /// `OutOfMemory` if memory for data of unknown length can't be allocated. After a failure the outlet has ended;
+    /// unless the writer failed, the bytes that were held are sent.
     pub fn respond_on<W: WriteDevice, D: ReadDevice + Drop>(
         &mut self,
         alloc: Global,

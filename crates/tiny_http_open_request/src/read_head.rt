@@ -119,7 +119,7 @@ fn end_at(input_state: InputState, why: EndOfRequests) -> EndOfRequests
 
 /// Reads one head, and with it a body of `Form::WithHead`, which has up to 1024 bytes (RFC 9112, sections 2 to 6).
 /// Returns a request, whose body is then read from the source; a refused head; or the end, with its reason. `now` dates
-/// the response to a refused head, and the 500 of a dropped request. Fails if memory is refused.
+/// the response to a refused head, and the 500 of a dropped request. Fails if memory can't be allocated.
 ///
 /// Under `Lenient` and `Strict` a head is refused with 400 for a malformed line, 408 if the reader timed out, even
 /// before the first byte, 417 for an expectation that can't be met, and 505 for a version above 1.1, with a plain-text

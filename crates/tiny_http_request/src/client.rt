@@ -106,7 +106,7 @@ impl<Rt: Wait + Copy> ClientConnection<RefinedTcpStream, RefinedTcpStream, Rt> {
 
     /// Returns a connection over the two halves of a client's socket, before its first read, under `Lenient`. Its
     /// requests have the client's address, or none if the socket is a Unix socket or the system no longer knows the
-    /// address. Fails if memory is refused.
+    /// address. Fails if memory can't be allocated.
     pub fn new(
         rt: Rt,
         alloc: Global,
@@ -147,7 +147,7 @@ impl<R: ReadDevice + Drop, W: WriteDevice + Drop, Rt: Wait + Copy> ClientConnect
     ghost use Rattle.tiny_http_request.specs.Client.{client_source, IsFreshSource, HandsOutNext, GivesInput};
 
     /// Returns a connection over a writer and a reader, before its first read, under `Lenient`. Its requests have this
-    /// `remote_addr` and `secure`. Fails if memory is refused.
+    /// `remote_addr` and `secure`. Fails if memory can't be allocated.
     pub fn over(
         rt: Rt,
         alloc: Global,
@@ -253,7 +253,7 @@ impl<R: ReadDevice + Drop, W: WriteDevice + Drop, Rt: Wait + Copy> ClientConnect
 
     /// Reads the next request and hands it out. If the connection has no further request, this call and each later one
     /// return `None`. `now` dates the responses to refused heads, and the 500 of this request if it is dropped. Fails
-    /// if memory is refused; then each later call returns `None`.
+    /// if memory can't be allocated; then each later call returns `None`.
     ///
     /// The call waits for the client, and until the last request's body, if it holds the input, is read to its end or
     /// given up. Under `Standard` it also waits until a request that asks for an upgrade is answered or dropped: a
@@ -318,7 +318,7 @@ impl<R: ReadDevice + Drop, W: WriteDevice + Drop, Rt: Wait + Copy> ClientConnect
 
     /// Waits until all that was handed out is answered: each request has been answered or dropped, or its raw writer or
     /// stream has been dropped, and the refused heads have been answered. After that nothing reads or writes the
-    /// connection, unless the next request is asked for. Fails if memory is refused.
+    /// connection, unless the next request is asked for. Fails if memory can't be allocated.
     pub fn wait_for_answers(&mut self) -> Result<(), AllocError>
         ensures over { IsOver self.new ↔ IsOver self.old }
         ensures input { client_source self.new ≡ client_source self.old }
@@ -543,7 +543,7 @@ fn ends_no_line<R: ReadAheadDevice>(source: &Source<R>, n: usize) -> bool {
 }
 
 // Returns whether the next head, with a body that is read with it, can be read from the bytes that the source holds and
-// those that its reader has read ahead: reads it from a copy. Fails if memory is refused.
+// those that its reader has read ahead: reads it from a copy. Fails if memory can't be allocated.
 fn is_whole<R: ReadAheadDevice>(
     alloc: Global,
     source: &Source<R>,
@@ -564,7 +564,8 @@ fn is_whole<R: ReadAheadDevice>(
 }
 
 // Returns where the head after a request is read from, or `None` if the request is the last: from the input if `held`
-// has it, and otherwise from the input once the request that took it has passed it on. Fails if memory is refused.
+// has it, and otherwise from the input once the request that took it has passed it on. Fails if memory can't be
+// allocated.
 fn next_head<R: ReadDevice + Drop, Rt: Wait + Copy>(
     source: &mut SequentialReaderBuilder<Source<R>, Rt>,
     is_last: bool,
@@ -657,8 +658,8 @@ impl<W: WriteDevice + Drop, Rt: Wait + Copy> RefusalPlace<SequentialWriterBuilde
     // No contract states what is under a lock.
     ghost refuses = { λ _ _ _ _ _ _. ⊤ };
 
-    // Takes the next turn, and leaves the response in it. Fails if memory is refused, if 2^64 - 1 writers have been
-    // issued, or if the connection is to end.
+    // Takes the next turn, and leaves the response in it. Fails if memory can't be allocated, if 2^64 - 1 writers have
+    // been issued, or if the connection is to end.
     fn refuse(
         &mut self,
         sink: &mut SequentialWriterBuilder<Outlet<W>, Rt>,

@@ -334,7 +334,7 @@ impl<R: ReadDevice + Drop, W: WriteDevice + Drop, Rt: Wait + Drop> Request<R, W,
     /// sent or read; otherwise once `most` bytes and one more have been read. Fails with `Cut` if the client's bytes
     /// end within a body of a known length or within chunks, with `Broken` if chunks break the grammar (RFC 9112,
     /// section 7.1), with `Io` if the reader meets any other fault, including one of kind `Interrupted`, and with
-    /// `Memory` if memory is refused.
+    /// `Memory` if memory can't be allocated.
     ///
     /// After an immediate `TooLong` nothing has changed. After any other error the bytes that were read are lost, and
     /// the body continues at the current position. A later call reports a fault again, and `Cut` too, except for a body

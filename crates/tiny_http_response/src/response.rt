@@ -87,7 +87,7 @@ impl<R> Model for Response<R> {
 /// them.
 pub const THRESHOLD: usize = 32768;
 
-// Returns the header `Content-Type: text/plain; charset=UTF-8`. Fails if memory is refused.
+// Returns the header `Content-Type: text/plain; charset=UTF-8`. Fails if memory can't be allocated.
 #[tactic(auto, unfolding(crate::specs::Answer::text_plain))]
 fn text_plain(alloc: Global) -> Result<Header, AllocError>
     ensures { IfOk result (λ h. h ≡ text_plain) }
@@ -115,8 +115,9 @@ impl<F: Read + OpenFile> Response<Metered<F>> {
 }
 
 impl Response<Cursor<Vec<u8>>> {
-    /// Creates a 200 response with this text as its data, of known length, and `Content-Type: text/plain;
-    /// charset=UTF-8` (as in the Rust crate). Fails if memory for that header is refused.
+    /// Creates a 200 response with this text as its data, of known length, and
+    /// `Content-Type: text/plain; charset=UTF-8` (as in the Rust crate). Fails if memory for that header can't be
+    /// allocated.
     pub fn from_string(alloc: Global, text: String) -> Result<Response<Cursor<Vec<u8>>>, AllocError>
         ensures answer { IfOk result (λ r. r.answer ≡ answer_with 200 (text_plain ∷ []) (string_len text)) }
         ensures bytes { IfOk result (λ r. cursor_bytes r.data_reader ≡ string_bytes text) }
@@ -164,7 +165,7 @@ impl Response<io::Empty> {
         Response::empty(alloc, status)
     }
 
-    /// Copies the response. Fails if memory is refused.
+    /// Copies the response. Fails if memory can't be allocated.
     pub fn try_clone(&self) -> Result<Response<io::Empty>, AllocError>
         ensures { IfOk result (λ r. r ≡ self.now) }
     {
@@ -182,7 +183,7 @@ impl Response<io::Empty> {
     }
 }
 
-// Copies a text, if there is one. Fails if memory is refused.
+// Copies a text, if there is one. Fails if memory can't be allocated.
 fn copy_of(text: &Option<AsciiString>) -> Result<Option<AsciiString>, AllocError>
     ensures { IfOk result (λ copy. copy ≡ text.now) }
 {
@@ -192,7 +193,7 @@ fn copy_of(text: &Option<AsciiString>) -> Result<Option<AsciiString>, AllocError
     }
 }
 
-// Copies the headers into a list whose capacity is their number. Fails if memory is refused.
+// Copies the headers into a list whose capacity is their number. Fails if memory can't be allocated.
 fn copies_of(alloc: Global, headers: &[Header]) -> Result<Vec<Header>, AllocError>
     ensures { IfOk result (λ list. list.items ≡ headers.now) }
 {
@@ -203,15 +204,15 @@ fn copies_of(alloc: Global, headers: &[Header]) -> Result<Vec<Header>, AllocErro
     Ok(list)
 }
 
-/// The error of `Response::new` if memory for a header is refused. It hands back the reader of the data.
+/// The error of `Response::new` if memory for a header can't be allocated. It hands back the reader of the data.
 #[derive(Drop)]
 pub struct Refused<R> {
     /// The reader of the data, unchanged.
     pub reader: R,
 }
 
-/// The error of `Response::with_header` if memory for the header is refused. It hands back the response and the header,
-/// both unchanged.
+/// The error of `Response::with_header` if memory for the header can't be allocated. It hands back the response and the
+/// header, both unchanged.
 #[derive(Drop)]
 pub struct NotAdded<R> {
     /// The response, without the header.
@@ -349,8 +350,8 @@ impl<R> Response<R> {
     /// Adds a header (as in the Rust crate). `Connection`, `Trailer`, `Transfer-Encoding` and `Upgrade` are ignored, in
     /// any letter case. `Content-Length` sets the length of the data if its value is an optional `+` and digits, at
     /// most 2^64 - 1; otherwise it is ignored. A second `Content-Type` replaces the value of the first, in place. Any
-    /// other header is appended. Only appending needs memory: if memory is refused, the error hands back the header,
-    /// and the response is unchanged.
+    /// other header is appended. Only appending needs memory: if memory can't be allocated, the error hands back the
+    /// header, and the response is unchanged.
     pub fn add_header(&mut self, header: Header) -> Result<(), Header>
         ensures added { OnOk result (self.new ≡ record self.old { answer = add_header header self.old.answer }) }
         ensures refused { IfErr result (λ h. (h ≡ header) × (self.new ≡ self.old)) }
@@ -359,7 +360,8 @@ impl<R> Response<R> {
         add(&mut self.headers, &mut self.data_length, header)
     }
 
-    /// Adds a header as `add_header` does, and returns the response. If memory is refused, the error hands back both.
+    /// Adds a header as `add_header` does, and returns the response. If memory can't be allocated, the error hands back
+    /// both.
     pub fn with_header(mut self, header: Header) -> Result<Response<R>, NotAdded<R>>
         ensures added { IfOk result (λ r. r ≡ record self { answer = add_header header self.answer }) }
         ensures refused { IfErr result (λ e. (e.response ≡ self) × (e.header ≡ header)) }
@@ -440,8 +442,8 @@ impl<R> Response<R> {
     /// `UnexpectedEof` if the data end before their length, unless the body is omitted or sent in chunks. If the coding
     /// is `Identity`, data of unknown length are read whole before the head, even if the body is omitted (but not for
     /// an upgrade, nor for a code without content if `contentless` made the response): if the data fail, or if memory
-    /// is refused (`OutOfMemory`), nothing is written. Fails with `InvalidInput`, and writes nothing, if the protocol
-    /// to upgrade to isn't ASCII.
+    /// can't be allocated (`OutOfMemory`), nothing is written. Fails with `InvalidInput`, and writes nothing, if the
+    /// protocol to upgrade to isn't ASCII.
     pub fn raw_print<W: WriteDevice>(
         self,
         alloc: Global,

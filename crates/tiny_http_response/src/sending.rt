@@ -70,8 +70,8 @@ fn send_printed<W: WriteDevice, D: ReadDevice + Drop>(
 }
 
 /// Prints a response and flushes it. Fails with the first fault, of the data or of the writer, or with `OutOfMemory` if
-/// memory for data of unknown length is refused. After an error nothing more is sent on the connection; unless the
-/// writer failed, the bytes that were held are still sent.
+/// memory for data of unknown length can't be allocated. After an error nothing more is sent on the connection; unless
+/// the writer failed, the bytes that were held are still sent.
 pub fn send<W: WriteDevice, D: ReadDevice + Drop>(
     alloc: Global,
     outlet: &mut Outlet<W>,

@@ -309,7 +309,7 @@ pub enum ConfigListenAddr {
 
 impl ConfigListenAddr {
     /// Resolves the addresses to listen at. Fails with the system's error if a host name isn't found or a text isn't an
-    /// address, or with `OutOfMemory` if memory is refused.
+    /// address, or with `OutOfMemory` if memory can't be allocated.
     pub fn from_socket_addrs<R: Net, A: ToSocketAddrs>(
         rt: &R,
         alloc: Global,
@@ -326,7 +326,7 @@ impl ConfigListenAddr {
         ConfigListenAddr::Unix(path)
     }
 
-    /// Copies the address. Fails if memory is refused.
+    /// Copies the address. Fails if memory can't be allocated.
     pub fn try_clone(&self) -> Result<ConfigListenAddr, AllocError>
         ensures { IfOk result (λ copy. IsCopyOf self.now copy) }
     {

@@ -75,7 +75,7 @@ pub struct Cork<W: WriteBoth + Drop> {
 }
 
 impl<W: WriteBoth + Drop> Cork<W> {
-    // Wraps a writer with an empty buffer. Fails if memory is refused.
+    // Wraps a writer with an empty buffer. Fails if memory can't be allocated.
     fn new(alloc: Global, writer: W) -> Result<Cork<W>, AllocError> {
         let corked = Corked::new(alloc, writer)?;
         let flush_policy = Arc::new(alloc, FlushPolicy::new())?;
@@ -291,7 +291,7 @@ impl<R: ReadDevice + Drop, W: WriteBoth + Drop> ReadAheadDevice for FlushingRead
     }
 }
 
-/// Creates the two halves of a connection over this reader and this writer. Fails if memory is refused.
+/// Creates the two halves of a connection over this reader and this writer. Fails if memory can't be allocated.
 pub fn halves<R: ReadDevice + Drop, W: WriteBoth + Drop, Rt: Wait + Drop>(
     rt: Rt,
     alloc: Global,

@@ -60,7 +60,7 @@ impl<W: WriteBoth> Model for Corked<W> {
 impl<W: WriteBoth + Drop> Corked<W> {
     ghost use Rattle.tiny_http_socket.specs.Corked.{corked_sink, unreported};
 
-    /// Wraps a writer with an empty buffer and no failures counted. Fails if memory is refused.
+    /// Wraps a writer with an empty buffer and no failures counted. Fails if memory can't be allocated.
     pub fn new(alloc: Global, writer: W) -> Result<Corked<W>, AllocError>
         ensures writer { IfOk result (λ c. (c.writer ≡ writer) × (c.sink ≡ W.sink writer)) }
         ensures none { IfOk result (λ c. (c.waiting ≡ []) × (unreported c ≡ None)) }

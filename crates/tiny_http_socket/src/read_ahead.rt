@@ -53,7 +53,7 @@ impl<R: ReadDevice> Model for ReadAhead<R> {
         × ((vec_len a.piece ≡ PIECE) ⊎ (vec_len a.piece ≡ 0)) };
 }
 
-// Takes the memory for a piece, if it was freed. Returns false, with nothing changed, if memory is refused.
+// Takes the memory for a piece, if it was freed. Returns false, with nothing changed, if memory can't be allocated.
 fn take_piece(piece: &mut Vec<u8>) -> bool
     requires { (vec_len piece.old ≡ PIECE) ⊎ (vec_len piece.old ≡ 0) }
     ensures taken { result ≡ true → vec_len piece.new ≡ PIECE }
@@ -105,7 +105,7 @@ fn read_after_held<R: ReadDevice>(
 impl<R: ReadDevice + Drop> ReadAhead<R> {
     ghost use Rattle.tiny_http_socket.specs.ReadAhead.{ahead_feed};
 
-    /// Wraps a reader, with no byte read ahead. Fails if memory is refused.
+    /// Wraps a reader, with no byte read ahead. Fails if memory can't be allocated.
     pub fn new(alloc: Global, reader: R) -> Result<ReadAhead<R>, AllocError>
         ensures { IfOk result (λ a. (a.reader ≡ reader) × (a.held ≡ []) × (a.feed ≡ R.feed reader)) }
     {
@@ -142,8 +142,8 @@ impl<R: ReadDevice> ReadAhead<R> {
         n
     }
 
-    // Reads at most a piece from the inner reader. Returns false, with nothing read, if memory for the piece is
-    // refused. No bytes may be held when it is called.
+    // Reads at most a piece from the inner reader. Returns false, with nothing read, if memory for the piece can't be
+    // allocated. No bytes may be held when it is called.
     fn fill(&mut self) -> Result<bool, io::Error>
         requires none { self.old.held ≡ [] }
         ensures bytes { result ≡ Ok true → self.old.feed ≡ ahead_feed self.new }
@@ -192,7 +192,8 @@ impl<R: ReadDevice> ReadAhead<R> {
     }
 
     // Reads some bytes from the inner reader: directly into `buf` if that has room for a piece, or if memory for a
-    // piece is refused; otherwise it reads a piece and copies what fits. No bytes may be held when it is called.
+    // piece can't be allocated; otherwise it reads a piece and copies what fits. No bytes may be held when it is
+    // called.
     fn read_more(&mut self, buf: &mut [u8]) -> Result<usize, io::Error>
         requires none { self.old.held ≡ [] }
         ensures reads { Reads self.old.feed (ahead_feed self.new) result buf.new }
@@ -236,7 +237,7 @@ impl<R: ReadDevice> ReadAhead<R> {
 
     /// Reads once from the inner reader, as many bytes as there is room for after the held ones, and returns how many
     /// came: 0 at the end, or if there is no room. Fails with the inner reader's fault, or with `OutOfMemory` if memory
-    /// is refused.
+    /// can't be allocated.
     pub fn read_ahead(&mut self) -> Result<usize, io::Error>
         ensures feed { ahead_feed self.new ≡ ahead_feed self.old }
         ensures count { IfOk result (λ n. length self.new.held ≡ length self.old.held + n) }

@@ -48,7 +48,7 @@ impl RefinedTcpStream {
     ghost use Rattle.tiny_http_socket.specs.Stream.{HasSamePeer};
 
     /// Splits a connection into its read half and its write half. The connection is closed once both halves and every
-    /// other handle are dropped. Fails if memory is refused; the connection is then closed.
+    /// other handle are dropped. Fails if memory can't be allocated; the connection is then closed.
     pub fn new(
         alloc: Global,
         connection: Connection,

@@ -98,7 +98,7 @@ enum NoHead {
     OpenField,
     // There are more than `MOST_HEADERS` field lines.
     TooMany,
-    // Memory was refused.
+    // Memory couldn't be allocated.
     Memory,
 }
 
@@ -226,8 +226,8 @@ fn not_ended(bytes: &[u8], limit: usize, fault: StandardFault) -> StandardRead
 /// The head is refused at its first malformed or surplus line, whatever follows, and once `limit` bytes have come
 /// without the end of the head. If `limit` is below 3, the refusal at `limit` bytes can come even before the first byte
 /// of a head. If more bytes are needed, call again with these bytes and the new ones. Each call starts over, so for a
-/// head that comes byte by byte use `source_heads::read_head_from`. Fails if memory is refused; memory is needed only
-/// if the request line is valid.
+/// head that comes byte by byte use `source_heads::read_head_from`. Fails if memory can't be allocated; memory is
+/// needed only if the request line is valid.
 pub fn read_head(alloc: Global, bytes: &[u8], limit: usize) -> Result<StandardRead, AllocError>
     ensures reads { IfOk result (λ read. Reads limit bytes.now read) }
     ensures begun { OnErr result (HasGoodRequestLine (take limit bytes.now)) }

@@ -29,7 +29,7 @@ enum NoHead {
     Refused(StandardFault),
     // The source stopped before the end of the head.
     Unfinished { has_begun: bool },
-    // Memory was refused.
+    // Memory couldn't be allocated.
     Memory,
 }
 
@@ -46,7 +46,7 @@ fn text_of(line: &[u8]) -> Option<&[u8]>
 }
 
 // Parses a line, given without its LF, as a request line; returns `None` for an empty line. Refuses a malformed line
-// with `BadLine`. Fails with `Memory` if memory is refused.
+// with `BadLine`. Fails with `Memory` if memory can't be allocated.
 fn request_in(
     alloc: Global,
     line: &[u8],
@@ -67,7 +67,7 @@ fn request_in(
 }
 
 // Parses a line, given without its LF, as a field line; returns `None` for the empty line. Refuses a malformed line
-// with `BadLine`. Fails with `Memory` if memory is refused.
+// with `BadLine`. Fails with `Memory` if memory can't be allocated.
 fn field_in(alloc: Global, line: &[u8]) -> Result<Option<Header>, NoHead>
     ensures { FieldIn line.now result }
 {
@@ -240,7 +240,7 @@ fn without_head(why: NoHead) -> Result<StandardRead, AllocError>
 /// `heads::read_head` on all bytes still to come from the source. No byte after the head is consumed; one call to the
 /// reader may have buffered some. A line that is whole in the buffer is parsed in place. A malformed or surplus line is
 /// refused as soon as its LF has come. `Unfinished` means that the source stopped before the end of the head, and is
-/// over. Fails if memory is refused. After a failure or a refusal, the source may be in the middle of the head.
+/// over. Fails if memory can't be allocated. After a failure or a refusal, the source may be in the middle of the head.
 pub fn read_head_from<R: ReadDevice>(
     alloc: Global,
     source: &mut Source<R>,

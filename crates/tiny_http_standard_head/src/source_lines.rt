@@ -29,7 +29,7 @@ pub(crate) enum NoLine {
     },
     /// The limit was reached without an LF.
     TooLong,
-    /// Memory for the line was refused.
+    /// Memory for the line couldn't be allocated.
     Memory,
 }
 

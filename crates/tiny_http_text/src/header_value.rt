@@ -119,7 +119,7 @@ pub fn parse_element(text: &str) -> (&str, u32)
 /// and 32) at its ends; the name of an empty element is empty. The quality of the name is that of the first parameter
 /// that begins, after optional white space, with `q=` and has a readable number: one to six digits, then optionally a
 /// point and at most three digits, with optional white space around the number. If there is no such parameter, the
-/// quality is 1000. The Rust crate accepts other forms of numbers. Fails if memory for the list is refused.
+/// quality is 1000. The Rust crate accepts other forms of numbers. Fails if memory for the list can't be allocated.
 pub fn parse_header_value(alloc: Global, value: &str) -> Result<Vec<(&str, u32)>, AllocError>
     ensures { IfOk result (λ list. ListsQualities value.now (map (λ e. (e.0.now, e.1)) list.items)) }
 {

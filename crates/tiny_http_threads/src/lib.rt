@@ -14,7 +14,7 @@
 //!   or a job belongs to the thread that took it out.
 //! - In `roster` the lock guards the number and the book of shares.
 //! - Apart from the locks themselves, a thread waits only on a condition that belongs to the value, and that wait
-//!   releases the lock. If memory for a condition is refused, the thread releases the lock and tries again.
+//!   releases the lock. If memory for a condition can't be allocated, the thread releases the lock and tries again.
 #![tactic(auto)]
 
 pub mod held_reader;

@@ -75,9 +75,9 @@ impl<J> PoolState<J> {
         }
     }
 
-    /// Offers a job. If more workers are idle than jobs wait, the job waits, or is returned if memory is refused.
-    /// Otherwise the job must start on a new worker, which counts as running from now on; if 2^64 - 1 workers run, the
-    /// job is returned.
+    /// Offers a job. If more workers are idle than jobs wait, the job waits, or is returned if memory can't be
+    /// allocated. Otherwise the job must start on a new worker, which counts as running from now on; if 2^64 - 1
+    /// workers run, the job is returned.
     pub fn offer(&mut self, job: J) -> Offered<J>
         ensures sound { IsSound self.new }
         ensures offers { Offers self.old job result self.new }
@@ -268,8 +268,8 @@ impl<J: Job + Drop + Send + 'static, R: Threads + Wait + Clock + Copy + Send + '
     J,
     R,
 > {
-    /// Starts four workers. Fails with `OutOfMemory` if memory is refused, or with `WouldBlock` if a thread can't be
-    /// created; the pool is then closed, so that the workers that were started end.
+    /// Starts four workers. Fails with `OutOfMemory` if memory can't be allocated, or with `WouldBlock` if a thread
+    /// can't be created; the pool is then closed, so that the workers that were started end.
     pub fn new(rt: R, alloc: Global) -> io::Result<TaskPool<J, R>>
         ensures { IfErr result (λ e. (error_kind e ≡ ErrorKind.OutOfMemory) ⊎ (error_kind e ≡ ErrorKind.WouldBlock)) }
     {
@@ -290,7 +290,8 @@ impl<J: Job + Drop + Send + 'static, R: Threads + Wait + Clock + Copy + Send + '
         Ok(pool)
     }
 
-    /// Runs a job on a worker, idle or new. If memory or a thread is refused, the error hands back the job.
+    /// Runs a job on a worker, idle or new. If memory can't be allocated or a thread can't be created, the error hands
+    /// back the job.
     pub fn spawn(&self, rt: &R, alloc: Global, job: J) -> Result<(), J>
         ensures { IfErr result (λ back. back ≡ job) }
     {

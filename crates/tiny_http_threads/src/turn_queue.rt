@@ -22,7 +22,7 @@ enum Taking<T> {
     Held(Box<T>),
     // The number waits, and its thread must wait on this condition.
     Waits(Arc<Condvar>),
-    // Memory for the wait was refused, or the number was never issued. Nothing has changed.
+    // Memory for the wait couldn't be allocated, or the number was never issued. Nothing has changed.
     Refused,
 }
 
@@ -71,8 +71,8 @@ impl<T> Model for TurnQueueState<T> {
 }
 
 // Lists a number as waiting, and returns the condition that wakes its thread. No clause states that the returned
-// condition is the listed one, since to contracts all conditions are equal. Fails if memory is refused, and then
-// changes nothing.
+// condition is the listed one, since to contracts all conditions are equal. Fails if memory can't be allocated, and
+// then changes nothing.
 fn list_waiter(
     waiters: &mut BTreeMap<u64, Arc<Condvar>>,
     alloc: Global,
@@ -105,7 +105,7 @@ impl<T: Drop> TurnQueueState<T> {
     ghost use Rattle.tiny_http_threads.specs.TurnQueue.{IsSoundTurnQueue, IsNewTurnQueue, ListsWaiter, WakesNext};
     ghost use Rattle.tiny_http_threads.specs.TurnQueue.{taken_item};
 
-    // Creates the state before any number is issued. Fails if memory is refused.
+    // Creates the state before any number is issued. Fails if memory can't be allocated.
     fn new(alloc: Global, item: T) -> Result<TurnQueueState<T>, AllocError>
         ensures { IfOk result (λ q. IsNewTurnQueue item q) }
     {
@@ -119,7 +119,7 @@ impl<T: Drop> TurnQueueState<T> {
         })
     }
 
-    // Issues the next number. Fails if memory is refused or no number is left; then nothing has changed.
+    // Issues the next number. Fails if memory can't be allocated or no number is left; then nothing has changed.
     fn issue(&mut self) -> Result<u64, AllocError>
         ensures number { IfOk result (λ n. turn_answer Issue self.old.turns.marks ≡ Issued n) }
         ensures ok { OnOk result (self.new ≡ record self.old {
@@ -206,7 +206,7 @@ impl<T: Drop> TurnQueueState<T> {
     }
 
     // Holds the number if its turn has come, as `Turns` does. Otherwise lists the number as waiting. Refuses if memory
-    // for the wait is refused or the number was never issued.
+    // for the wait can't be allocated or the number was never issued.
     fn take(&mut self, alloc: Global, number: u64) -> Taking<T>
         ensures marks { self.new.turns.marks ≡ marks_after_step (Take number) self.old.turns.marks }
         ensures item { TakesTurn (turn_answer (Take number) self.old.turns.marks) self.old.turns.resting
@@ -258,7 +258,7 @@ impl<T: Drop> TurnQueueState<T> {
     }
 }
 
-// Creates a turn queue with this state. Fails if memory is refused.
+// Creates a turn queue with this state. Fails if memory can't be allocated.
 fn share<T: Drop>(
     alloc: Global,
     state: TurnQueueState<T>,
@@ -291,13 +291,13 @@ pub(crate) struct TurnQueue<T> {
 }
 
 impl<T: Drop> TurnQueue<T> {
-    /// Creates a queue from which no number has been issued yet. Fails if memory is refused.
+    /// Creates a queue from which no number has been issued yet. Fails if memory can't be allocated.
     pub fn new(alloc: Global, item: T) -> Result<Arc<TurnQueue<T>>, AllocError> {
         share(alloc, TurnQueueState::new(alloc, item)?)
     }
 
-    /// Issues the next number. Returns the number, and whether its turn has come. Fails if memory is refused, or no
-    /// number is left.
+    /// Issues the next number. Returns the number, and whether its turn has come. Fails if memory can't be allocated,
+    /// or no number is left.
     pub fn issue<R: Wait>(&self, rt: &R) -> Result<(u64, bool), AllocError> {
         let mut state = self.state.lock(rt);
         let number = state.issue()?;
@@ -432,7 +432,7 @@ pub(crate) struct Turn<T, R: Wait> {
 }
 
 impl<T: Drop, R: Wait + Drop> Turn<T, R> {
-    /// Issues the next number of this queue. Fails if memory is refused, or no number is left.
+    /// Issues the next number of this queue. Fails if memory can't be allocated, or no number is left.
     pub fn new(rt: R, alloc: Global, queue: &Arc<TurnQueue<T>>) -> Result<Turn<T, R>, AllocError> {
         let queue = Arc::try_clone(queue)?;
         let (number, is_next) = queue.issue(&rt)?;
@@ -444,8 +444,8 @@ impl<T: Drop, R: Wait + Drop> Turn<T, R> {
         })
     }
 
-    /// Issues the next number of this queue, or returns `None` once the queue has been closed. Fails if memory is
-    /// refused, or no number is left.
+    /// Issues the next number of this queue, or returns `None` once the queue has been closed. Fails if memory can't be
+    /// allocated, or no number is left.
     pub fn new_unless_closed(
         rt: R,
         alloc: Global,
@@ -473,8 +473,8 @@ impl<T: Drop, R: Wait + Drop> Turn<T, R> {
         self.is_next
     }
 
-    // Waits for the turn, unless the number is held already, and holds the number. If memory for the wait is refused,
-    // retries until it succeeds.
+    // Waits for the turn, unless the number is held already, and holds the number. If memory for the wait can't be
+    // allocated, retries until it succeeds.
     fn wait(&mut self)
         ensures { IsSome self.new.item }
     {
@@ -516,8 +516,8 @@ impl<T: Drop, R: Wait + Drop> Turn<T, R> {
         }
     }
 
-    /// Waits for the turn, unless the number is held already, and returns the item. If memory for the wait is refused,
-    /// retries until it succeeds.
+    /// Waits for the turn, unless the number is held already, and returns the item. If memory for the wait can't be
+    /// allocated, retries until it succeeds.
     pub fn hold(&mut self) -> &mut T {
         self.wait();
         match &mut self.item {
@@ -570,7 +570,7 @@ pub struct Held<T, R: Wait> {
 }
 
 impl<T: Drop, R: Wait + Drop> Held<T, R> {
-    /// Creates a turn queue of this item, and holds its first number. Fails if memory is refused.
+    /// Creates a turn queue of this item, and holds its first number. Fails if memory can't be allocated.
     pub(crate) fn first(rt: R, alloc: Global, item: T) -> Result<Held<T, R>, AllocError>
         ensures { IfOk result (λ held. held.item.value ≡ item) }
     {

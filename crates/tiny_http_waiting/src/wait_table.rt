@@ -113,7 +113,7 @@ impl<T: Drop> WaitTable<T> {
     }
 
     /// Adds a connection that is served, with no event kept, and returns its token, which no other connection has.
-    /// Fails if memory is refused, and then changes nothing.
+    /// Fails if memory can't be allocated, and then changes nothing.
     pub fn enter(&mut self) -> Result<usize, AllocError>
         ensures slots { Enters self.old.slots result self.new.slots }
         ensures earliest { self.new.earliest ≡ self.old.earliest }
@@ -169,7 +169,7 @@ impl<T: Drop> WaitTable<T> {
         let slot = self.slots.get_mut(token)?;
         let before = mem::replace(slot, Slot::Free);
         if !before.is_free() {
-            // If memory is refused, the token isn't used again.
+            // If memory can't be allocated, the token isn't used again.
             let _ = self.free.push(token);
         }
         before.into_item()

@@ -66,7 +66,7 @@ pub fn accepting_key<R: ReadDevice + Drop, W: WriteDevice + Drop, Rt: Wait + Dro
 
 /// Upgrades a request for a WebSocket: sends the 101, dated `now`, in the request's turn. Returns `Refused`, with the
 /// request, if the request isn't for a WebSocket, its body isn't whole (which only `Standard` requires), or the limit
-/// of upgraded connections is reached. Fails if memory is refused; then the request is dropped.
+/// of upgraded connections is reached. Fails if memory can't be allocated; then the request is dropped.
 pub fn accept<R: ReadDevice + Drop, W: WriteDevice + Drop, Rt: Wait + Drop>(
     alloc: Global,
     request: Request<R, W, Rt>,
@@ -88,8 +88,8 @@ pub fn accept<R: ReadDevice + Drop, W: WriteDevice + Drop, Rt: Wait + Drop>(
 }
 
 /// Returns the response to a request whose handshake was refused with this error: a 503 with its reason phrase as text
-/// if the limit of upgraded connections is reached, otherwise the response of `upgrade_required`. Fails if memory is
-/// refused.
+/// if the limit of upgraded connections is reached, otherwise the response of `upgrade_required`. Fails if memory can't
+/// be allocated.
 pub fn refusal(alloc: Global, error: UpgradeError) -> io::Result<Response<Cursor<Vec<u8>>>>
     ensures full { error ≡ UpgradeError.TooMany → IfOk result (λ r. r.answer.status ≡ 503) }
     ensures other { error ≢ UpgradeError.TooMany → IfOk result (λ r. r.answer.status ≡ 426) }
@@ -102,7 +102,7 @@ pub fn refusal(alloc: Global, error: UpgradeError) -> io::Result<Response<Cursor
 
 /// Returns the response to a request that isn't for a WebSocket of version 13: a 426 with its reason phrase as text.
 /// The response states the version (RFC 6455, section 4.4) and offers the upgrade (RFC 9110, section 15.5.22); the
-/// offer is printed only under `Standard`. Fails if memory is refused.
+/// offer is printed only under `Standard`. Fails if memory can't be allocated.
 pub fn upgrade_required(alloc: Global) -> io::Result<Response<Cursor<Vec<u8>>>>
     ensures { IfOk result (λ r. r.answer.status ≡ 426) }
 {
