@@ -1,9 +1,10 @@
 //! Reads the bodies of requests and sends long bodies, without limits and under `Lenient`, as the Rust crate does. With
-//! `recv` four threads receive requests; with `serve` each connection's worker answers that connection's requests.
+//! `recv`, four threads receive requests; with `serve`, the server's workers handle them.
 //!
 //! A `PUT` or a `POST` is answered with the length of its body, and `GET /` with `hello world`. `GET /identity` sends
-//! the bytes that the file had at the start, from memory, and `GET /chunked` sends them in chunks; `GET /file` and
-//! `GET /file/chunked` send the file itself in these two ways. Any other request is answered with 404.
+//! from memory, and not in chunks, the bytes that the file named on the command line had at the start; `GET /chunked`
+//! sends them in chunks. `GET /file` and `GET /file/chunked` send the file itself in the same two ways. Any other
+//! request is answered with 404.
 use crate::BenchFault;
 use std::alloc::{AllocError, Global};
 use std::fs::{File, Files};
@@ -20,9 +21,9 @@ use tiny_http::serving::Handler;
 // Number of bytes that one read of a body asks for.
 const PIECE: usize = 8192;
 
-/// A runtime that can open a file to be sent. Any runtime with files can.
+/// A runtime that can open a file to send. Any runtime with files implements it.
 pub trait DataFiles {
-    /// Opens the file of this name. Fails with the system's error.
+    /// Opens the file with this name. Fails with the system's error.
     fn open_data(&self, name: &str) -> io::Result<File>;
 }
 
@@ -46,7 +47,8 @@ fn length_of<D: ReadDevice>(body: &mut D) -> io::Result<u64> {
     Err(ErrorKind::Other.into())
 }
 
-// Returns whether a body ended before its `Content-Length`, which reads do not report as an error under `Lenient`.
+// Returns whether a body is shorter than its `Content-Length` states. Under `Lenient`, reads don't report that as an
+// error.
 fn is_cut(length: Option<usize>, count: u64) -> bool {
     match length {
         Some(length) => count < length as u64,
@@ -132,7 +134,7 @@ impl<R: DataFiles + Clock + Wait + Drop> Handler<R, ServerRequest<R>> for Data {
     }
 }
 
-// Answers requests until the server has no more, then unblocks another waiting thread.
+// Answers requests until none can be received, then unblocks another waiting thread so that it ends, too.
 fn answer_all<R: ServerRuntime + DataFiles>(
     rt: &R,
     alloc: Global,

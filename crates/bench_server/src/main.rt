@@ -2,9 +2,9 @@
 //!
 //! `bench_server [--lenient|--strict|--standard] [--connections N] ADDRESS` answers every request with `hello world`,
 //! through a handler. Requests are read under the named profile, by default `Standard`, and clients have the default
-//! limits, but at most N connections, by default 1,000, which may all have one address. Once a minute, and when it
-//! stops, the server prints its counts; it keeps serving if nobody reads them. A line `stop` on standard input stops
-//! it; it waits at most 10 seconds for open requests and connections.
+//! limits: 1,000 connections, and 250 from one address. `--connections N` raises or lowers both limits to N. Once a
+//! minute, and when it stops, the server prints its counts; it keeps serving if nobody reads them. A `stop` line on
+//! standard input stops it; it then waits at most 10 seconds for open requests and connections.
 //!
 //! `bench_server --bodies recv|serve ADDRESS FILE` reads bodies and sends long bodies (module `bodies`).
 #![tactic(auto)]
@@ -36,8 +36,8 @@ const REPORT_SECS: u64 = 60;
 // Maximum number of seconds that a stop waits for open requests and connections.
 const STOP_SECS: u64 = 10;
 
-// Maximum number of tenths of a second that the program waits for its last line to be printed, since perhaps nobody
-// reads it.
+// Maximum time that the program waits for its last line to be printed, in tenths of a second. Printing may block
+// forever if nobody reads.
 const PRINT_TENTHS: u32 = 30;
 
 /// The reason why the program can't serve, or stopped serving.
@@ -46,13 +46,13 @@ pub enum BenchFault {
     /// The arguments don't match the usage.
     #[error("usage: bench_server [--lenient|--strict|--standard] [--connections N] ADDRESS | --bodies recv|serve ADDRESS FILE")]
     Usage,
-    /// The server can't listen on the address.
+    /// The server can't be created, for example because it can't listen on the address.
     #[error("cannot listen: {0}")]
     CannotListen(ServerError),
     /// Serving failed, or the file to send can't be read.
     #[error("cannot serve: {0}")]
     Serving(io::Error),
-    /// Memory couldn't be allocated, or a thread could not be started.
+    /// Memory can't be allocated, or a thread can't be started.
     #[error("out of memory")]
     OutOfMemory,
 }
@@ -110,7 +110,7 @@ fn profile_of(word: &str) -> Option<Profile> {
     }
 }
 
-// What the arguments say.
+// The parsed arguments.
 #[derive(Clone, Copy)]
 struct Options<'a> {
     profile: Profile,
@@ -118,7 +118,8 @@ struct Options<'a> {
     address: &'a str,
 }
 
-// Parses the arguments: the profile, by default `Standard`, the limit of connections, and the address.
+// Parses the arguments: options that name the profile (`Standard` by default) and the connection limit, then the
+// address.
 fn asked(words: &[String]) -> Result<Options<'_>, BenchFault> {
     let Some((address, words)) = words.split_last() else {
         return Err(BenchFault::Usage);
@@ -145,7 +146,7 @@ fn asked(words: &[String]) -> Result<Options<'_>, BenchFault> {
     Ok(options)
 }
 
-// Creates a server that listens on the address in the arguments, under the profile that they name.
+// Creates a server that listens on the address in the arguments, with the profile and the limits that they give.
 fn listen<R: ServerRuntime>(
     rt: R,
     alloc: Global,
@@ -160,7 +161,7 @@ fn listen<R: ServerRuntime>(
     Ok(Arc::new(alloc, server).map_err(|_| AllocError)?)
 }
 
-// Stops the server once a line `stop` arrives. Returns without stopping it if the input ends or fails before that.
+// Stops the server once a `stop` line arrives. Returns without stopping it if the input ends or fails before that.
 fn stop_when_told<R: ServerRuntime, I: BufRead + Drop>(
     rt: &R,
     alloc: Global,
@@ -241,7 +242,8 @@ fn answer_all<R: ServerRuntime>(alloc: Global, server: &Server<R>) -> Result<(),
 }
 
 // Listens on the address in the arguments, and answers all requests. Two more threads read the input and print. Input
-// and output are type parameters, since a thread can't take a bound whose associated type isn't `Send`.
+// and output have type parameters of their own: a thread can't use a trait bound such as `Input`, whose associated type
+// isn't `Send`.
 fn serve<R, I, O>(
     rt: R,
     alloc: Global,
@@ -289,10 +291,10 @@ fn report<E: Write>(fault: &BenchFault, err: &mut E) -> u8 {
     1
 }
 
-/// Listens on the address in the arguments, and answers every request with `hello world` until a line `stop` arrives on
+/// Listens on the address in the arguments, and answers every request with `hello world` until a `stop` line arrives on
 /// `input`. Another thread prints the server's address and counts on `out`. Returns the exit status: 0; 2 if the
-/// arguments aren't `[--lenient|--strict|--standard] ADDRESS`; 1 if the server can't listen, serving fails, memory
-/// can't be allocated, or a thread can't be started. A line on `err` reports the error.
+/// arguments don't match the usage; 1 if the server can't listen, serving fails, memory can't be allocated, or a thread
+/// can't be started. A line on `err` reports the error.
 pub fn serve_hello<R, I, O, E: Write>(
     rt: R,
     alloc: Global,

@@ -23,7 +23,7 @@ pub(crate) trait Disk {
     /// Returns the canonical path, with links resolved, or `None` if it isn't UTF-8.
     fn real_path(&self, alloc: Global, path: &str) -> io::Result<Option<String>>;
 
-    /// Returns the names of a folder's entries, sorted, without entries that can't be read or whose names aren't UTF-8.
+    /// Returns the names of a folder's entries, sorted. Skips entries that can't be read or whose names aren't UTF-8.
     fn names_in(&self, alloc: Global, path: &str) -> io::Result<Vec<String>>;
 }
 

@@ -1,10 +1,10 @@
 //! Serves the files of a folder: `example_files ADDRESS FOLDER`.
 //!
 //! It accepts `GET` and `HEAD`. A request for a folder is answered with its `index.html` or a list of its entries, or,
-//! if the path has no slash at its end, with a redirect to the path with one. A request for something that can't be
-//! read, is outside the folder, or is neither a file nor a folder is answered with 404. A file that shrinks while it is
-//! sent ends its connection, since its length has already been sent. If memory can't be allocated, the response is a
-//! 404, or the empty 500 of a dropped request.
+//! if the path has no trailing slash, with a redirect to the path with one. A request for something that can't be read,
+//! is outside the folder, or is neither a file nor a folder is answered with 404. A file that shrinks while it is sent
+//! ends its connection, since its length has already been sent. If memory can't be allocated, the response is a 404, or
+//! the empty 500 of a dropped request.
 //!
 //! The program shows a path that stays within the folder (`below_folder`), a file of any length that isn't sent in
 //! chunks (`with_chunked_threshold`), a 304 without content (`contentless`), and headers added by `with`.
@@ -32,7 +32,7 @@ use tiny_http_files::dates::is_not_modified;
 use tiny_http_files::paths::below_folder;
 use tiny_http_files::types::type_of;
 
-/// The folder that is served, by its canonical path.
+/// The folder to serve. Its path is canonical.
 #[derive(Drop)]
 struct Folder {
     path: String,
@@ -116,7 +116,7 @@ impl<R: ReadDevice + Drop, W: WriteDevice + Drop, Rt: Disk + Clock + Wait + Drop
     Rt,
     Request<R, W, Rt>,
 > for Folder {
-    /// Answers a request with a file, an index, a listing, a redirect or an error.
+    /// Answers a request with a file, an index, a listing, a 304, a redirect or an error.
     fn handle(&self, rt: &Rt, alloc: Global, request: Request<R, W, Rt>) -> io::Result<()> {
         if !matches!(request.method(), Method::Get | Method::Head) {
             let answer = Response::status(alloc, StatusCode(405))?;

@@ -10,7 +10,7 @@ use tiny_http_client::answer_head::{AnswerHead, read_answer_head};
 pub(crate) const PIECE: usize = 8192;
 
 // Length in bytes above which a response's head is refused if it is still incomplete. The interim heads before it
-// count, too, once a read brings an LF.
+// count, too, once a read returns an LF.
 const LONGEST_HEADS: usize = 65_536;
 
 // Seconds after which a backend that accepts no bytes, or sends no response, has timed out.
@@ -19,7 +19,8 @@ const PATIENCE: u64 = 10;
 // Milliseconds that a write waits for the backend before it looks for the response again.
 const WRITE_WAIT: u64 = 250;
 
-/// A reader of a response's body: first of the bytes that arrived with the head, then of the connection.
+/// A reader of a response's body. It first returns the bytes that arrived with the head, then reads from the
+/// connection.
 pub(crate) type Rest = Chain<Cursor<Vec<u8>>, TcpStream>;
 
 /// A connection to the backend. It looks for the response before each write.
@@ -84,8 +85,9 @@ impl<Rt: Clock> Backend<'_, Rt> {
         self.head.is_some()
     }
 
-    // Returns the next head and its length in bytes, or `None` if the head is incomplete. Fails with `InvalidData` if
-    // the head is malformed, and with `InvalidData` or `OutOfMemory` if memory can't be allocated.
+    // Returns the next head and its length in bytes, or `None` if the head is incomplete. If the head can't be read,
+    // tries again with each byte above 127 percent-encoded. Fails with `InvalidData` if the head is malformed, and with
+    // `InvalidData` or `OutOfMemory` if memory can't be allocated.
     fn next_head(&self) -> io::Result<Option<(AnswerHead, usize)>> {
         let front = self.front.as_slice();
         if let Ok(found) = read_answer_head(self.alloc, front) {
@@ -102,7 +104,7 @@ impl<Rt: Clock> Backend<'_, Rt> {
     }
 
     // Reads the complete heads that have arrived, up to the first that isn't interim. Fails with `InvalidData` if a
-    // head is malformed or a 101, or if the heads are too long.
+    // head is malformed or has status 101, or if the heads are too long.
     fn read_heads(&mut self) -> io::Result<()> {
         for _ in 0..LONGEST_HEADS {
             let Some((head, length)) = self.next_head()? else {

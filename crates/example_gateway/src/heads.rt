@@ -1,4 +1,4 @@
-//! The parts of the heads of requests and responses that are forwarded, and the headers that the gateway adds.
+//! The heads of forwarded requests and responses: what is kept, what the gateway adds, and how a response's body ends.
 use std::alloc::Global;
 use std::io;
 use std::io::{ErrorKind, Write};
@@ -42,7 +42,7 @@ fn is_hop(header: &Header, headers: &[Header]) -> bool {
         || has_element(headers, "Connection", header.field.as_str().as_str())
 }
 
-// Returns the host of a target in absolute form, or `None` for another form. This host takes precedence over `Host`
+// Returns the host of a target in absolute form, or `None` for any other form. This host takes precedence over `Host`
 // (RFC 9112, section 3.2.2).
 fn host_in(target: &str) -> Option<&str> {
     let (scheme, rest) = target.split_once("://")?;
@@ -118,7 +118,7 @@ pub(crate) enum Ending {
 }
 
 /// Returns how the body after these headers ends. `Transfer-Encoding` overrides `Content-Length`. Returns `None` if
-/// there is a transfer coding other than one `chunked`, or if the content lengths are invalid or differ.
+/// there is a transfer coding other than a single `chunked`, or if the content lengths are invalid or differ.
 pub(crate) fn ending_of(headers: &[Header]) -> Option<Ending> {
     let mut codings = headers
         .iter()
@@ -145,7 +145,7 @@ pub(crate) fn ending_of(headers: &[Header]) -> Option<Ending> {
     Some(ending)
 }
 
-/// Returns a response with the backend's status code and forwarded headers, and with these data.
+/// Returns a response with the backend's status code and forwarded headers, and with this data.
 pub(crate) fn answer_with<D: Drop>(
     head: AnswerHead,
     data: D,

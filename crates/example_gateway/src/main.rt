@@ -1,15 +1,17 @@
 //! Forwards requests to another HTTP server, and its responses to the clients: `example_gateway ADDRESS BACKEND`.
 //!
 //! The client gets a 502 if its request can't be forwarded or the response isn't understood, a 504 after a timeout, and
-//! a 501 for `CONNECT`. A timeout occurs if the backend accepts nothing for ten seconds, if it doesn't respond within
-//! ten seconds after the request has been sent, or if reading the client's body times out.
+//! a 501 for `CONNECT`. A timeout occurs if connecting to the backend times out, if the backend accepts nothing for ten
+//! seconds, if it doesn't respond within ten seconds after the request has been sent, or if reading the client's body
+//! times out.
 //!
 //! A response that arrives before the whole request has been sent is forwarded too (module `backend`). Each message is
 //! framed anew, so a body is never taken for the next request. Headers that apply to one connection, and those that
 //! `Connection` names, aren't forwarded (RFC 9110, section 7.6.1).
 //!
-//! The program shows a head that is lent beside its body (`parts`), the head of a response (`read_answer_head`), a body
-//! of known length (`Response::of`), and a body that is sent as it arrives (`respond_streaming`).
+//! The program shows how to borrow a head together with its body (`parts`), read the head of a response
+//! (`read_answer_head`), send a body of known length (`Response::of`), and send a body as it arrives
+//! (`respond_streaming`).
 #![tactic(auto)]
 
 mod backend;

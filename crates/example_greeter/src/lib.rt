@@ -1,6 +1,6 @@
 //! A server that drives a `Connection` and chooses the response to each request. Its contract states that the exchange
-//! is a conversation, which shows that the connection theorem also applies to a program that isn't a list of steps. The
-//! crate is built on `tiny_http_core` and `tiny_http_wire`.
+//! is a conversation (`IsConversation`), which shows that the connection theorem, the contract of `run`, also applies
+//! to a program that isn't a list of steps for `run`. The crate is built on `tiny_http_core` and `tiny_http_wire`.
 #![tactic(auto)]
 
 ghost use Rattle.std.specs.Prelude.{◌≡◌, Some};
@@ -63,8 +63,8 @@ pub fn serve<R: ReadDevice + Drop, W: WriteDevice + Drop>(
     (source, outlet, None)
 }
 
-/// Serves a client in memory that sends these bytes and ends. Returns the writer with its buffer, and the last reply.
-/// The writer fails if memory for its bytes can't be allocated.
+/// Serves an in-memory client that sends these bytes and then ends. Returns the writer with its buffer, and the last
+/// reply. The writer fails if memory for its bytes can't be allocated.
 pub fn serve_bytes(alloc: Global, bytes: Vec<u8>, now: HttpDate) -> (Outlet<Budget>, Option<Reply>)
     ensures { GreetsClient bytes.items now (outlet_writer result.0) (outlet_held result.0) (outlet_ended result.0)
         result.1 }

@@ -1,12 +1,12 @@
 //! Serves notes, kept in memory, as JSON: `example_router ADDRESS`.
 //!
-//! `GET /notes` lists the notes, `POST /notes` adds a note from `{"text": ..}`, and `GET` and `DELETE` of `/notes/{id}`
-//! return and remove a note. `GET /events` sends the notes as server-sent events. Errors that the handler finds in a
-//! request are reported as JSON. If reading the body fails otherwise, or memory can't be allocated before a response
-//! has begun, the request is dropped, which answers it with an empty 500.
+//! `GET /notes` lists the notes, `POST /notes` adds a note from `{"text": ..}`, `GET /notes/{id}` returns a note, and
+//! `DELETE /notes/{id}` removes it. `GET /events` sends the notes as server-sent events. Errors that the handler finds
+//! in a request are reported as JSON. If reading the body fails for any other reason, or memory can't be allocated
+//! before a response has begun, the request is dropped, which answers it with an empty 500.
 //!
 //! The program shows routes with `matchit`, JSON with `serde_json`, state shared by threads, a body read whole
-//! (`read_body`), a body that grows while it is sent (`respond_streaming`), and a handler of any `Request`.
+//! (`read_body`), a body that grows while it is sent (`respond_streaming`), and a handler that accepts any `Request`.
 #![tactic(auto)]
 
 mod notes;

@@ -11,7 +11,7 @@ use tiny_http::{Method, Response, StatusCode};
 // Maximum number of notes.
 const MOST_NOTES: usize = 1000;
 
-/// A response of this program, whose data are bytes in memory.
+/// A response of this program, whose data is in memory.
 pub(crate) type Answer = Response<Cursor<Vec<u8>>>;
 
 /// The resource that a path names: all notes, or one note.
@@ -35,7 +35,7 @@ pub(crate) struct Notebook {
     notes: Mutex<Notes>,
 }
 
-// Returns a response with this status code, whose data are this value as JSON.
+// Returns a response with this status code, whose data is this value as JSON.
 fn json_answer(alloc: Global, status: u16, value: &Value) -> io::Result<Answer> {
     let answer = Response::from_data(alloc, value.to_string(alloc)?.into_bytes());
     let answer = answer.with(alloc, "Content-Type", "application/json")?;

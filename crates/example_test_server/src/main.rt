@@ -2,12 +2,12 @@
 //!
 //! The folder has pairs of files: `NAME.request` with the bytes that a client sends, and `NAME.response` with the bytes
 //! that the client gets, which needn't be HTTP. A request matches a recorded one if method, target and body are equal.
-//! Each response is sent once; equal requests get theirs in the order of the names. An unknown request is answered with
-//! 501, and a request whose body can't be read, or is longer than 2^20 bytes, with 413. `GET /unused` lists the names
-//! of responses that have not been sent yet. All requests are read under `Standard`.
+//! Each response is sent once; equal requests get theirs in the order of the names. A request without an unsent
+//! response is answered with 501, and a request whose body can't be read, or is longer than 2^20 bytes, with 413.
+//! `GET /unused` lists the names of responses that have not been sent yet. All requests are read under `Standard`.
 //!
-//! The program shows requests read from bytes (`ClientConnection`), raw responses (`into_writer`), and a response that
-//! ends with its connection (`close`), since the response has no length or `read_answer` can't read it whole.
+//! The program shows how to read requests from bytes (`ClientConnection`), send raw responses (`into_writer`), and end
+//! the connection (`close`) after a response that has no length or that `read_answer` can't read whole.
 #![tactic(auto)]
 
 use std::alloc::{AllocGlobal, Global};

@@ -1,8 +1,8 @@
 //! Sends each WebSocket message back: `example_websocket_echo ADDRESS`. A handshake above the limit on upgraded
 //! connections is answered with 503, and any other request that isn't accepted with 426.
 //!
-//! The program shows an upgrade with `tiny_http_websocket`, frames with `tungstenite`, and `serve`, which gives each
-//! connection a thread: an open WebSocket keeps its thread.
+//! The program shows an upgrade with `tiny_http_websocket`, frames with `tungstenite`, and `serve`, under which a
+//! connection that waits for a request takes no thread, but an open WebSocket keeps one.
 #![tactic(auto)]
 
 use std::alloc::Global;
@@ -22,9 +22,9 @@ use tungstenite::{
 // Maximum length of a message in bytes.
 const MOST: usize = 1 << 20;
 
-// Returns the close code for a client error (RFC 6455, sections 7.1.7 and 7.4.1): a breach of the protocol, which
-// includes ending the stream without a Close frame, a text that isn't UTF-8, or a message that is too long. Returns
-// `None` for any other error.
+// Returns the close code for a client error (RFC 6455, sections 7.1.7 and 7.4.1): a breach of the protocol (such as
+// ending the stream without a Close frame), a text that isn't UTF-8, or a message that is too long. Returns `None` for
+// any other error.
 fn close_code(fault: &Error) -> Option<CloseCode> {
     match fault {
         Error::Protocol(_) => Some(CloseCode::Protocol),

@@ -77,8 +77,8 @@ fn text_response(
     Ok(response.with_data(data, Some(text.len())))
 }
 
-// Returns a response with this status code and, as its data, `count` bytes of `x` that end with this stop. `length` is
-// the stated length, if it is known.
+// Returns a response with this status code whose data is `count` bytes `b'x'`, then this stop. `length` is the stated
+// length, if there is one.
 fn xs_response(
     alloc: Global,
     status: StatusCode,

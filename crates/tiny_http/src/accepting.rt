@@ -65,7 +65,8 @@ impl<R: Wait + Clock + Drop> Message<R> {
 /// The queue of a server.
 pub(crate) type Messages<R> = MessagesQueue<Message<R>>;
 
-/// The queue of a server, which the server shares with the threads that add to the queue.
+/// A server's queue, the stage of its shutdown, and whether it serves with a handler. The server shares these with the
+/// threads that add to the queue.
 #[derive(Drop)]
 pub(crate) struct Queuing<R: Wait + Clock + Drop> {
     pub messages: Arc<Messages<R>>,
@@ -84,8 +85,8 @@ impl<R: Wait + Clock + Drop> Queuing<R> {
         }
     }
 
-    // Puts a message into the queue, or drops it if the queue has no room. Once the server has been closed, nothing
-    // takes messages from the queue, so a thread that adds one then empties the queue.
+    // Puts a message into the queue, or drops it if the queue has no room. Once the server has been closed, a message
+    // might never be taken from the queue, so a thread that adds one then empties the queue.
     fn push(&self, rt: &R, message: Message<R>) {
         let _ = self.messages.push(rt, message);
         if self.ending.is_closed() {
@@ -113,15 +114,17 @@ pub(crate) struct Reading<R: Wait + Clock + Drop> {
 }
 
 impl<R: Wait + Clock + Copy> Task for Reading<R> {
-    /// Puts the requests that have come into the queue, and after the last closes the connection. If the server serves
-    /// with a handler by then, and bytes of a head have come, puts the client itself into the queue, to be served.
+    /// Puts the requests that have arrived into the queue, and closes the connection after the last one. If bytes of a
+    /// head have arrived in time, and the server now serves with a handler and isn't closed, puts the client itself
+    /// into the queue instead, to be served.
     fn run(&mut self, is_late: bool) -> Progress {
         let queuing = &*self.queuing;
         let may_move = !is_late
             && queuing.serving.load(Ordering::SeqCst)
             && !queuing.ending.is_closed();
         if may_move && let Some(arrival) = self.arrival.take_if(|arrival| arrival.has_come()) {
-            // Another connection may soon have the same descriptor, but none comes here any more.
+            // Another connection may soon get the same descriptor, but no new connection is added to this crew anymore,
+            // so the crew can deregister the descriptor.
             let socket = arrival.socket();
             queuing.push(&self.rt, Message::NewClient(arrival));
             return Progress::Left(socket);
@@ -184,8 +187,8 @@ impl<R: Wait + Clock + Copy> Accepting<R> {
         }
     }
 
-    // Has the workers read this client's requests, or queues the client to be served. If that fails, the client is
-    // closed.
+    // Has the workers read this client's requests, or, once the server serves with a handler, queues the client to be
+    // served. If that fails, the client is closed.
     fn begin(&self, connection: Connection, remote_addr: Option<SocketAddr>) {
         let Some(client) = self.client(connection, remote_addr) else {
             return;
@@ -249,7 +252,7 @@ impl<R: Wait + Clock + Copy> Accepting<R> {
         })
     }
 
-    // Returns a timed reader and writer over the halves of this socket.
+    // Returns a timed reader and writer over the halves of this socket, or `None` if memory can't be allocated.
     fn timed_halves(
         &self,
         reader: RefinedTcpStream,
@@ -265,8 +268,8 @@ impl<R: Wait + Clock + Copy> Accepting<R> {
         Some((TimedReader::new(rt, reader, socket, shared), writer))
     }
 
-    // Counts a client of this address as connected. Returns `None` if a limit refuses the client, memory can't be
-    // allocated, or the server was closed before the client was registered.
+    // Counts a client with this address as connected. Returns `None` if a limit refuses the client, memory can't be
+    // allocated, or the server has been closed.
     fn enter(
         &self,
         remote_addr: Option<SocketAddr>,

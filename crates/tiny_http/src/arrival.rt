@@ -38,8 +38,8 @@ pub(crate) struct Client<R: Wait + Clock + Drop> {
 }
 
 impl<R: Wait + Clock + Copy> Client<R> {
-    // Sends what is held, and waits until all the client's requests are answered. Returns false if memory can't be
-    // allocated.
+    // Sends the held responses, and waits until all the client's requests are answered. Returns false if memory can't
+    // be allocated.
     fn is_answered(&mut self) -> bool {
         self.cork.send();
         self.connection.wait_for_answers().is_ok()
@@ -50,8 +50,8 @@ impl<R: Wait + Clock + Copy> Client<R> {
         self.shared.limits().is_some()
     }
 
-    // Hands the next request to a handler. Returns false if there is none, or if the server was dropped: the request is
-    // dropped then. If the server is being stopped, the request is the last.
+    // Hands the next request to a handler. Returns false if there is none, or if the server was dropped, in which case
+    // the request is dropped, too. If the server is being stopped, the request is the last.
     fn answer_next<H: Handler<R, ServerRequest<R>>>(&mut self, alloc: Global, handler: &H) -> bool {
         let rt = self.rt;
         let now = current_date(&rt);
@@ -70,8 +70,8 @@ impl<R: Wait + Clock + Copy> Client<R> {
         true
     }
 
-    // Hands requests to a handler as long as the whole next head has come. Returns what has come of the next one, or
-    // `None` if there is no further request.
+    // Hands the next request to a handler, and further ones while their whole heads have arrived. Returns how much of
+    // the head after them has arrived, or `None` if there is no further request.
     fn answer_ready<H: Handler<R, ServerRequest<R>>>(
         &mut self,
         alloc: Global,
@@ -90,8 +90,8 @@ impl<R: Wait + Clock + Copy> Client<R> {
         None
     }
 
-    // Returns what has come of the next head, once the last request's body is read or given up. Reads ahead if more may
-    // have come.
+    // Returns how much of the next head has arrived, once the last request's body has been read or given up. Reads
+    // ahead if more may have arrived.
     fn readiness(&mut self) -> Readiness {
         self.connection.wait_for_input();
         let readiness = self.connection.readiness();
@@ -101,7 +101,7 @@ impl<R: Wait + Clock + Copy> Client<R> {
         self.connection.read_ahead()
     }
 
-    // Frees the buffers of the connection, which its next read and write take again.
+    // Frees the connection's buffers. Its next read and write allocate them again.
     fn free_buffers(&mut self) {
         self.cork.release();
         self.connection.release_ahead();
@@ -122,7 +122,7 @@ struct Idle {
 }
 
 impl Idle {
-    // Returns a wait without an end.
+    // Returns a wait that never ends.
     fn new() -> Idle {
         Idle {
             ends: Duration::MAX,
@@ -132,7 +132,7 @@ impl Idle {
     }
 }
 
-// How far a client is served.
+// The stage of a client's connection.
 #[derive(Drop)]
 enum Stage {
     // The next head hasn't begun.
@@ -151,7 +151,7 @@ pub(crate) struct Arrival<R: Wait + Clock + Drop> {
 }
 
 impl<R: Wait + Clock + Copy> Arrival<R> {
-    /// Returns the arrival of a client.
+    /// Wraps a client whose next head hasn't begun.
     pub fn new(client: Client<R>) -> Arrival<R> {
         Arrival {
             client,
@@ -159,20 +159,21 @@ impl<R: Wait + Clock + Copy> Arrival<R> {
         }
     }
 
-    /// Returns the client's socket.
+    /// Returns the descriptor of the client's socket.
     pub fn socket(&self) -> RawFd {
         self.client.socket.as_raw_fd()
     }
 
-    /// Allows responses to be held, so that several leave together, unless no further handle to the policy can be made.
+    /// Allows responses to be held, so that several are sent together, unless no further handle to the policy can be
+    /// made.
     pub fn hold_responses(&mut self) {
         if let Ok(flush_policy) = Arc::try_clone(self.client.cork.flush_policy()) {
             self.client.connection.set_flush_policy(flush_policy);
         }
     }
 
-    /// Begins the wait for the client's next head, or goes on with it. Returns the time until which the client may send
-    /// nothing, or `None` if it is to be served at once.
+    /// Begins or continues the wait for the client's next head. Returns the time until which the client may be silent,
+    /// or `None` if it is to be served at once.
     pub fn begin(&mut self) -> Option<Duration> {
         let readiness = self.client.connection.readiness();
         if readiness == Readiness::Ready {
@@ -184,7 +185,7 @@ impl<R: Wait + Clock + Copy> Arrival<R> {
         }
     }
 
-    /// Reads ahead what the client has sent, and returns whether bytes of a head have come. Returns false once the
+    /// Reads ahead what the client has sent, and returns whether bytes of a head have arrived. Returns false once the
     /// connection is being closed.
     pub fn has_come(&mut self) -> bool {
         if matches!(self.stage, Stage::Draining(_)) {
@@ -194,9 +195,9 @@ impl<R: Wait + Clock + Copy> Arrival<R> {
         self.client.connection.readiness() != Readiness::Idle
     }
 
-    /// Hands the client's requests to a handler as long as they come, and then waits for the next one. After the last
-    /// waits until all are answered, and closes the connection. `is_late` tells that the wait is over without an event.
-    /// Once the server was dropped, the next request is dropped and is the last.
+    /// Hands the client's requests to a handler as long as more have arrived, and then waits for the next one. After
+    /// the last one, waits until all are answered, and closes the connection. `is_late` means that the wait ended
+    /// without an event. Once the server has been dropped, the next request is dropped, and none follows it.
     pub fn answer_by<H: Handler<R, ServerRequest<R>>>(
         &mut self,
         alloc: Global,
@@ -219,7 +220,7 @@ impl<R: Wait + Clock + Copy> Arrival<R> {
         }
     }
 
-    // Reads what the client has sent, and hands the requests whose heads are whole to a handler.
+    // Reads ahead what the client has sent, and hands the requests whose heads are complete to a handler.
     fn answer_more<H: Handler<R, ServerRequest<R>>>(
         &mut self,
         alloc: Global,
@@ -229,7 +230,7 @@ impl<R: Wait + Clock + Copy> Arrival<R> {
         self.answer_from(alloc, handler, readiness)
     }
 
-    // Hands requests to a handler if the next head is ready.
+    // Hands requests to a handler if the next head is ready, and otherwise waits for the rest of it.
     fn answer_from<H: Handler<R, ServerRequest<R>>>(
         &mut self,
         alloc: Global,
@@ -244,7 +245,8 @@ impl<R: Wait + Clock + Copy> Arrival<R> {
         self.go_on(readiness)
     }
 
-    // Waits for the next head, of which this has come, or closes the connection if there is no further request.
+    // Waits for the next head, of which `readiness` says how much has arrived, or closes the connection if there is no
+    // further request.
     fn go_on(&mut self, readiness: Option<Readiness>) -> Progress {
         match readiness {
             Some(readiness) => self.wait(readiness),
@@ -252,7 +254,8 @@ impl<R: Wait + Clock + Copy> Arrival<R> {
         }
     }
 
-    // Waits for the rest of the next head, of which this has come.
+    // Sends the held responses, and waits for the rest of the next head, of which `readiness` says how much has
+    // arrived. Closes the connection instead if it was stopped.
     fn wait(&mut self, readiness: Readiness) -> Progress {
         self.client.cork.send();
         let has_begun = readiness == Readiness::Part;
@@ -295,8 +298,8 @@ impl<R: Wait + Clock + Copy> Arrival<R> {
         Progress::Waits(ends.min(now.saturating_add(short)))
     }
 
-    // Goes on with a wait for the first byte of a head: without buffers, or, if its time is over, closes the
-    // connection. If a request was open when the time began, the time starts over instead.
+    // Continues a wait for the first byte of a head, now without buffers, or closes the connection if the time for it
+    // has run out. If a request was open when the wait began, the time starts over instead.
     fn end_idle(&mut self, idle: Idle) -> Progress {
         if idle.has_buffers {
             self.client.free_buffers();
@@ -315,8 +318,8 @@ impl<R: Wait + Clock + Copy> Arrival<R> {
         self.close()
     }
 
-    // Waits until all requests are answered, and begins to close the connection. Discards nothing yet if nothing has
-    // come.
+    // Waits until all requests are answered, and begins to close the connection. Discards nothing yet if nothing was
+    // left in the socket.
     fn close(&mut self) -> Progress {
         if !self.client.is_answered() {
             return Progress::Over;
@@ -333,7 +336,8 @@ impl<R: Wait + Clock + Copy> Arrival<R> {
         until.map_or(Progress::Over, Progress::Waits)
     }
 
-    // Discards what the client has sent while the connection is closed.
+    // Discards what the client has sent while the connection is being closed. `is_late` means that the client was
+    // silent for the time it was given: nothing is discarded then, and the connection is over.
     fn drain(&mut self, mut draining: Draining, is_late: bool) -> Progress {
         if is_late {
             return Progress::Over;

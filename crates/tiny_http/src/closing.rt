@@ -19,7 +19,7 @@ const LINGER_PIECE: usize = 16_384;
 
 const LINGER_READS: u32 = 4_096;
 
-// Timeout of a read that isn't to wait, in milliseconds.
+// Timeout of a read that is to return almost at once, in milliseconds.
 const SHORT_MILLIS: u64 = 1;
 
 /// A connection that is being closed: when that began, and how many reads are left.
@@ -30,8 +30,8 @@ pub(crate) struct Draining {
 }
 
 impl Draining {
-    /// Shuts down writing, and makes reads of the socket not wait. Returns `None` if their timeout can't be set;
-    /// nothing is discarded then.
+    /// Shuts down writing, and makes reads from the socket return almost at once. Returns `None` if their timeout can't
+    /// be set; nothing is discarded then.
     pub fn begin<R: Clock>(rt: &R, socket: &Connection) -> Option<Draining> {
         let begun = time_of(rt);
         let _ = socket.shutdown(Shutdown::Write);
@@ -44,7 +44,8 @@ impl Draining {
     }
 
     /// Discards what the client has sent. Returns the time until which it may be silent, or `None` if it has closed the
-    /// connection or sends too much, or if, under limits, the connection has been drained for 5 seconds.
+    /// connection or sends too much, if a read fails, or if, under limits, the connection has been drained for 5
+    /// seconds.
     pub fn discard<R: Clock>(
         &mut self,
         rt: &R,
@@ -69,8 +70,8 @@ impl Draining {
         None
     }
 
-    /// Returns the time until which the client may be silent, or `None` if the connection has been drained for too
-    /// long.
+    /// Returns the time until which the client may be silent, or `None` if, under limits, the connection has been
+    /// drained for too long.
     pub fn silent_until<R: Clock>(&self, rt: &R, has_limits: bool) -> Option<Duration> {
         let now = time_of(rt);
         let most = Duration::from_secs(LINGER_SECS);

@@ -1,9 +1,9 @@
 //! The workers that read or serve a server's connections. A connection that waits for its client takes no worker.
 //!
-//! One worker at a time waits at the `Poll` for events. It serves the first connection that is ready itself, and wakes
-//! an idle worker for the others, which wakes the next one. While all serve, nobody waits at the `Poll`: if that lasts,
-//! the watcher wakes or starts another worker. So a quick handler costs few switches of threads, and a slow one delays
-//! the others' connections by some milliseconds.
+//! One worker at a time waits on the `Poll` for events. It serves the first ready connection itself, and wakes an idle
+//! worker for the others, which wakes the next one. While all workers serve, none waits on the `Poll`: if that lasts,
+//! another thread, the watcher, wakes or starts a worker. So a quick handler costs few thread switches, and a slow one
+//! delays other connections by only a few milliseconds.
 use crate::registry::time_of;
 use mio::unix::SourceFd;
 use mio::{Events, Interest, Poll, Registry, Token, Waker};
@@ -31,17 +31,17 @@ const WAKER: usize = usize::MAX;
 /// What a task waits for.
 #[derive(Clone, Copy, Debug, PartialEq, Eq)]
 pub(crate) enum Progress {
-    /// An event of its socket, until this time of the monotonic clock.
+    /// An event on its socket, until this time of the monotonic clock.
     Waits(Duration),
     /// Nothing: the task is over.
     Over,
-    /// Nothing here: something else goes on with the task, and its socket's events go there.
+    /// Nothing here: the task continues elsewhere, and this crew takes no further events of this socket.
     Left(RawFd),
 }
 
 /// What a crew works on, such as a connection.
 pub(crate) trait Task {
-    /// Goes on with the task after an event, or, if `is_late` is true, because the time of its wait is over.
+    /// Continues the task after an event, or, if `is_late` is true, because its wait has timed out.
     fn run(&mut self, is_late: bool) -> Progress;
 }
 
@@ -65,7 +65,8 @@ struct CrewState<T> {
     table: WaitTable<Box<T>>,
     // The tasks that are to be run, in order.
     ready: VecDeque<Turn<T>>,
-    // For each token, whether an event told that its client sends no more, since the task was last taken to be run.
+    // For each token, whether an event has reported, since the task was last taken to be run, that its client sends no
+    // more.
     ended: Vec<bool>,
     // `None` while a worker waits for events.
     poller: Option<Poller>,
@@ -87,12 +88,12 @@ impl<T: Drop> CrewState<T> {
         self.is_closed && self.table.is_empty()
     }
 
-    // Returns whether events or tasks may come that no worker takes: all run tasks or are idle.
+    // Returns whether no worker waits for events, or a ready task still waits for a worker.
     fn is_unattended(&self) -> bool {
         self.poller.is_some() || !self.ready.is_empty()
     }
 
-    // Adds a task's token. Fails if memory can't be allocated.
+    // Adds a token for a task, and returns it. Fails if memory can't be allocated.
     fn enter(&mut self) -> Result<usize, AllocError> {
         let token = self.table.enter()?;
         for _ in self.ended.len()..=token {
@@ -104,7 +105,7 @@ impl<T: Drop> CrewState<T> {
         Ok(token)
     }
 
-    // Records that the client of this token sends no more.
+    // Records that this token's client sends no more.
     fn end_input(&mut self, token: usize) {
         if let Some(ended) = self.ended.get_mut(token) {
             *ended = true;
@@ -124,7 +125,7 @@ impl<T: Drop> CrewState<T> {
         drop(self.table.leave(token));
     }
 
-    // Returns whether the client of this token sends no more, and forgets that.
+    // Returns whether this token's client sends no more, and clears that record.
     fn take_ended(&mut self, token: usize) -> bool {
         match self.ended.get_mut(token) {
             Some(ended) => mem::replace(ended, false),
@@ -132,8 +133,8 @@ impl<T: Drop> CrewState<T> {
         }
     }
 
-    // Makes a task wait for an event until this time. If an event has come, or if it is to be run `again`, returns the
-    // task.
+    // Makes a task wait for an event until this time. Returns the task instead if an event has already arrived, or if
+    // it is to be run `again`.
     fn wait_unless(
         &mut self,
         again: bool,
@@ -262,14 +263,14 @@ impl<T: Task + Drop> Crew<T> {
         state
     }
 
-    // Wakes the worker that waits for events, if it would wait for longer than until this time.
+    // Wakes the worker that waits for events, if it would wait beyond this time.
     fn poll_until(&self, state: &CrewState<T>, until: Duration) {
         if until < state.polls_until {
             self.wake_poller(state);
         }
     }
 
-    // Waits for events, or until a wait is over, and makes the tasks of both ready.
+    // Waits for events, or until a task's wait is over, and makes the tasks concerned ready.
     fn poll<'a, R: Wait + Clock>(
         &'a self,
         rt: &R,
@@ -294,8 +295,8 @@ impl<T: Task + Drop> Crew<T> {
         state
     }
 
-    // Waits to be woken, for at most 5000 ms if more than the least workers run. Returns whether the worker must end;
-    // it no longer counts as running then.
+    // Waits to be woken, for at most 5000 ms if more than `MIN_THREADS` workers run. Returns whether the worker must
+    // end; if so, it no longer counts as running.
     fn rest<'a, R: Wait + Clock>(
         &'a self,
         rt: &R,
@@ -333,8 +334,9 @@ impl<T: Task + Drop> Crew<T> {
         self.wake_all();
     }
 
-    /// Adds a task, with the socket whose events it waits for, if it has one. It first waits until this time, or,
-    /// without a time, is run at once. If memory can't be allocated or a system call fails, drops the task.
+    /// Adds a task, with the socket whose events it waits for, if it has one. It first waits for an event, at most
+    /// until this time, or, without a time, is run at once. If memory can't be allocated or a system call fails, drops
+    /// the task.
     pub fn add<R: Wait>(
         &self,
         rt: &R,
@@ -368,7 +370,8 @@ impl<T: Task + Drop> Crew<T> {
             .is_ok()
     }
 
-    // Makes a task wait until this time, or run at once. Returns the task if memory can't be allocated.
+    // Makes a task wait for an event until this time, or, without a time, run at once. Returns the task if memory can't
+    // be allocated.
     fn begin<R: Wait>(
         &self,
         rt: &R,
@@ -403,8 +406,8 @@ fn note_event<T: Drop>(state: &mut CrewState<T>, token: usize, is_read_closed: b
     }
 }
 
-// Makes the tasks ready whose waits are over at `now`. It is called once all events that have come were noted, so that
-// a task whose event came in time isn't late.
+// Makes ready the tasks whose waits are over at `now`. It is called once all events that have arrived are recorded, so
+// that a task whose event arrived in time isn't late.
 fn take_late<T: Drop>(state: &mut CrewState<T>, now: Duration) {
     for _ in 0..u64::MAX {
         let Some((token, task)) = state.table.take_late(now) else {
@@ -423,9 +426,10 @@ fn make_ready<T: Drop>(state: &mut CrewState<T>, token: usize, task: Box<T>, is_
 }
 
 impl<T: Task + Drop + Send + 'static> Crew<T> {
-    /// Starts the least workers and the watcher of a crew with at most `most` workers. Fails with `OutOfMemory` if
-    /// memory can't be allocated, with `WouldBlock` if a thread can't be created, and with the system's error if it has
-    /// no descriptor for the crew; threads that were started end then.
+    /// Creates a crew of at most `most` workers, where 0 counts as 1. Starts `MIN_THREADS` workers, or `most` if that
+    /// is fewer, and the watcher. Fails with `OutOfMemory` if memory can't be allocated, with `WouldBlock` if a thread
+    /// can't be created, and with the system's error if it has no descriptor for the crew; threads that were already
+    /// started then end.
     pub fn start<R: Net + Threads + Wait + Clock + Copy + Send + 'static>(
         rt: R,
         alloc: Global,
@@ -465,7 +469,7 @@ impl<T: Task + Drop + Send + 'static> Crew<T> {
         Ok(crew)
     }
 
-    // Starts the least workers and the watcher.
+    // Starts `MIN_THREADS` workers, or `most` if that is fewer, and the watcher.
     fn start_threads<R: Threads + Wait + Clock + Copy + Send + 'static>(
         rt: R,
         crew: &Arc<Crew<T>>,
@@ -482,7 +486,8 @@ impl<T: Task + Drop + Send + 'static> Crew<T> {
         Ok(())
     }
 
-    // Starts a worker, and returns whether a thread for it could be created. Fails if no further handle can be made.
+    // Starts a worker, and returns whether a thread for it could be created. Fails if no further handle to the crew can
+    // be made.
     fn start_worker<R: Threads + Wait + Clock + Copy + Send + 'static>(
         rt: R,
         crew: &Arc<Crew<T>>,
@@ -501,8 +506,8 @@ impl<T: Task + Drop + Send + 'static> Crew<T> {
     }
 }
 
-// Wakes or starts workers whenever fewer tasks were taken in a while than were ready, or nobody has waited for events.
-// Rests while a worker waits for events and no task is ready.
+// Wakes or starts workers whenever, during a wait of `STALL_MILLIS`, fewer tasks were taken than were ready, or no
+// worker began to wait for events. Rests while a worker waits for events and no task is ready.
 fn watch<T: Task + Drop + Send + 'static, R: Threads + Wait + Clock + Copy + Send + 'static>(
     rt: R,
     crew: &Arc<Crew<T>>,

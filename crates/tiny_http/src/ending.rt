@@ -6,11 +6,11 @@ use std::sync::atomic::{AtomicBool, Ordering};
 pub(crate) struct Ending {
     // Whether accepting has been ended: no further client is to be accepted.
     is_closed: AtomicBool,
-    // Whether `stop` was called: requests are still handed out.
+    // Whether `Server::stop` was called: the handler of `serve` still gets each request whose head has arrived.
     is_stopping: AtomicBool,
     // Whether the accepting thread accepts no further client.
     has_accepted_all: AtomicBool,
-    // Whether a call to `stop` has finished its wait.
+    // Whether a call to `Server::stop` has finished its wait.
     has_stopped: AtomicBool,
 }
 
@@ -55,12 +55,12 @@ impl Ending {
         self.has_accepted_all.load(Ordering::SeqCst)
     }
 
-    /// Records that a call to `stop` has finished its wait.
+    /// Records that a call to `Server::stop` has finished its wait.
     pub fn stop(&self) {
         self.has_stopped.store(true, Ordering::SeqCst);
     }
 
-    /// Returns whether a call to `stop` has finished its wait.
+    /// Returns whether a call to `Server::stop` has finished its wait.
     pub fn has_stopped(&self) -> bool {
         self.has_stopped.load(Ordering::SeqCst)
     }

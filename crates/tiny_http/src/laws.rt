@@ -1,4 +1,4 @@
-//! Laws of the definitions. Each is the contract of a function that does nothing.
+//! Laws that follow from the definitions in the contracts. Each is the contract of a function that does nothing.
 
 pub use tiny_http_client::laws::streamed_chunks_are_read;
 pub use tiny_http_connection_laws::laws::{

@@ -1,8 +1,8 @@
 //! A small HTTP server: it accepts clients and hands out their requests, which any thread may read and respond to.
 //!
-//! `Server::http` listens on an address, `recv` waits for a request, and `respond` sends a response. Responses leave in
-//! the order of the requests of their connection, so `respond` waits until the earlier requests are answered. A request
-//! that is dropped gets an empty 500. Threads may share a server, and each may receive requests. A loop over
+//! `Server::http` listens on an address, `recv` waits for a request, and `respond` sends a response. The responses on a
+//! connection are sent in the order of its requests, so `respond` waits until the earlier requests are answered. A
+//! request that is dropped gets an empty 500. Threads may share a server, and each may receive requests. A loop over
 //! `incoming_requests` is a whole program:
 //!
 //! ```text
@@ -17,10 +17,10 @@
 //!
 //! `Request::respond_streaming` begins a response whose body grows while it is sent, such as server-sent events.
 //!
-//! `Server::serve` calls a `Handler` on a worker whenever a request has come; a connection that waits takes no thread.
-//! `Server::serve_by` runs the loop above on several threads, with a `Handler`.
+//! `Server::serve` calls a `Handler` on a worker whenever a request has arrived; a connection that waits takes no
+//! thread. `Server::serve_by` runs the loop above on several threads, with a `Handler`.
 //!
-//! A call that needs the runtime, which locks, waits and opens sockets, or the allocator gets it as an argument:
+//! A call that needs the runtime (which locks, waits and opens sockets) or the allocator takes it as an argument:
 //! neither is implicit. A program depends on `httpdate` if it makes dates, and on the crate of each error that `?`
 //! converts to an `io::Error`: `tiny_http_head` for a `ParseError`, as after `Response::with`, and `tiny_http_request`
 //! for a `BodyError`.
@@ -31,9 +31,10 @@
 //! - Requests and responses: `request`, `client` (a connection's requests), `common` (methods, headers, codes),
 //!   `response`, `streamed`, `upgrading`; `device` (readers and writers), `chunked` and `encoder`, `coding`, `target`.
 //! - Without threads: `driver`, `exchange`, `source`, `outlet`, `turns`.
-//! - In tests: `test`, `answer` (reads a response). And `laws`, what follows from the contracts' definitions.
+//! - In tests: `test`, `answer` (reads a response).
+//! - For proofs: `laws` (what follows from the contracts' definitions).
 //!
-//! The other modules correspond to parts of the Rust crate that few programs need.
+//! Few programs need the other modules, most of which correspond to parts of the Rust crate.
 #![tactic(auto)]
 
 mod accepting;

@@ -28,7 +28,7 @@ struct Connections {
     counts: Counts,
 }
 
-/// A server's open connections, within its limits, and its counters, to which a connection's requests are added when
+/// A server's open connections, within its limits, and its counters, to which a connection's own counts are added when
 /// that connection closes. The server's threads share the registry.
 #[derive(Drop)]
 pub(crate) struct ConnectionRegistry {
@@ -102,7 +102,7 @@ impl ConnectionRegistry {
         }
     }
 
-    /// Wakes the accepting thread, which ends if the server is closed.
+    /// Wakes the accepting thread if it waits in `wait_for_place`. That thread ends if the server is closed.
     pub fn wake<R: Wait>(&self, rt: &R) {
         drop(self.connections.lock(rt));
         self.changed.notify_all();
@@ -130,7 +130,7 @@ impl ConnectionRegistry {
         }
     }
 
-    // Removes the client of this number, whose connection is over.
+    // Removes the client with this number, whose connection has ended.
     fn leave<R: Wait>(&self, rt: &R, number: u64) {
         let mut connections = self.connections.lock(rt);
         let left = connections.table.leave(number);
@@ -145,7 +145,7 @@ impl ConnectionRegistry {
     }
 
     /// Makes each connection read no further head, and ends the connections that wait for one. If a request is open,
-    /// the connection's last response says under `Standard` that it closes.
+    /// the connection's last response says, under `Standard`, that the connection closes.
     pub fn stop<R: Wait>(&self, rt: &R) {
         let connections = self.connections.lock(rt);
         for entry in connections.table.entries() {
@@ -160,7 +160,7 @@ impl ConnectionRegistry {
         }
     }
 
-    /// Waits until no client is connected, for at most `time` since `begun`. Returns whether none is left.
+    /// Waits until no client is connected, for at most `time`, counted from `begun`. Returns whether none is left.
     pub fn wait_until_empty<R: Wait + Clock>(
         &self,
         rt: &R,
@@ -198,7 +198,7 @@ pub(crate) struct ConnectionGuard<R: Wait + Clock + Drop> {
 }
 
 impl<R: Wait + Clock + Drop> ConnectionGuard<R> {
-    /// Counts a client of this address as connected. Returns `None` if a limit refuses the client, memory can't be
+    /// Counts a client with this address as connected. Returns `None` if a limit refuses the client, memory can't be
     /// allocated, or no further handle to the registry can be made.
     pub fn enter(
         rt: R,

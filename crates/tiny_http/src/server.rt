@@ -40,8 +40,9 @@ const QUEUE_ROOM: usize = 8;
 // Timeout of a closing server's connection to itself, in seconds.
 const SELF_CONNECT_SECS: u64 = 1;
 
-/// The runtime of a server. It has sockets, the files of Unix sockets, a clock and threads that wait, and can be copied
-/// and sent to threads. Any runtime with these implements it. Threads that share a server also need `Sync`.
+/// The runtime of a server. It provides sockets, the files of Unix sockets, a clock, waiting and threads, and can be
+/// copied and sent to threads. Any such runtime implements this trait. A server that threads share needs a runtime that
+/// is also `Sync`.
 pub trait ServerRuntime: Net<Listener = TcpListener, Stream = TcpStream>
     + SocketFiles
     + Clock
@@ -64,7 +65,7 @@ where
 {}
 
 /// The runtime of a program whose threads share a server: a `ServerRuntime` that is `Sync`. Any such runtime implements
-/// it.
+/// this trait.
 pub trait Host: ServerRuntime + Sync {}
 
 impl<R: ServerRuntime + Sync> Host for R {}
@@ -99,8 +100,8 @@ pub enum Stopped {
 /// An error in making a server.
 #[derive(Debug, Drop, Error)]
 pub enum ServerError {
-    /// The server can't listen on the address, the host's name isn't found, the text isn't an address, the socket has
-    /// no address, or the system has no thread or descriptor for the server.
+    /// The server can't listen on the address, the host name isn't found, the text isn't an address, the socket has no
+    /// address, or a thread or a descriptor for the server can't be created.
     #[error("{0}")]
     Io(io::Error),
     /// TLS was requested, which isn't implemented.
@@ -109,12 +110,12 @@ pub enum ServerError {
     /// Out of memory.
     #[error("out of memory")]
     Memory,
-    /// The limits allow more connections than the process may open descriptors.
+    /// The limits allow more connections than the process can open descriptors for.
     #[error("{connections} connections are allowed, but only {openable} descriptors can be opened: raise `ulimit -n`")]
     TooFewDescriptors {
-        /// The limit of connections.
+        /// The maximum number of connections.
         connections: usize,
-        /// How many descriptors can be opened.
+        /// The number of descriptors that can be opened.
         openable: usize,
     },
 }
@@ -124,7 +125,7 @@ impl From<io::Error> for ServerError {
 
     ghost from_gives = { IsServerErrorOf };
 
-    /// Returns `Memory` for the kind `OutOfMemory`, and `Io` for each other kind.
+    /// Returns `Memory` for the kind `OutOfMemory`, and `Io` for any other kind.
     fn from(fault: io::Error) -> ServerError {
         if fault.kind() == ErrorKind::OutOfMemory {
             return ServerError::Memory;
@@ -138,7 +139,7 @@ impl From<ServerError> for io::Error {
 
     ghost from_gives = { IsFaultOf };
 
-    /// Returns the fault itself, or `InvalidInput` for `Ssl` and `TooFewDescriptors`, and `OutOfMemory` for `Memory`.
+    /// Returns the fault in `Io`, `InvalidInput` for `Ssl` and `TooFewDescriptors`, and `OutOfMemory` for `Memory`.
     fn from(error: ServerError) -> io::Error {
         match error {
             ServerError::Io(fault) => fault,
@@ -154,8 +155,8 @@ impl From<ServerError> for io::Error {
 pub struct ServerConfig {
     /// The address to listen on.
     pub addr: ConfigListenAddr,
-    /// The TLS settings. TLS isn't implemented: with `Some` no server is made. The error is that of listening on the
-    /// address, if that fails, and otherwise `ServerError::Ssl`.
+    /// The TLS settings. TLS isn't implemented: with `Some`, no server is made. The error is `ServerError::Ssl`, unless
+    /// listening on the address already fails.
     pub ssl: Option<SslConfig>,
 }
 
@@ -205,11 +206,12 @@ impl SslConfig {
 /// A server. Threads may share it, and each may receive requests.
 ///
 /// When it is dropped, it accepts no further client and removes the file of its Unix socket; the accepting thread ends
-/// soon after. Requests that were handed out can still be answered. Each other request, queued or later, gets an empty
+/// soon after. Requests that were handed out can still be answered. Any other request, queued or later, gets an empty
 /// 500. The connection of a later request ends with that request; the connection of a queued request ends with its next
-/// request, or when the client closes it. A client that is being accepted at that moment may be turned away.
+/// request, or when the client closes it. A client that waits for a call to `serve` is disconnected, and one that is
+/// being accepted at that moment may be turned away.
 ///
-/// The date of a request is read once its head has come. If the request is dropped, its 500 has this date.
+/// The date of a request is taken once its head has arrived. If the request is dropped, its 500 has this date.
 pub struct Server<R: Net + SocketFiles + Wait + Clock + Drop> {
     pub(crate) rt: R,
     pub(crate) queuing: Arc<Queuing<R>>,
@@ -220,7 +222,7 @@ pub struct Server<R: Net + SocketFiles + Wait + Clock + Drop> {
 }
 
 impl<R: ServerRuntime> Server<R> {
-    /// Makes a server at the first of these addresses that can be bound. Fails as `new` does, and if a host's name
+    /// Makes a server at the first of these addresses that can be bound. Fails as `new` does, and also if a host name
     /// isn't found or the text isn't an address.
     pub fn http<A: ToSocketAddrs>(rt: R, alloc: Global, addr: A) -> Result<Server<R>, ServerError> {
         Server::http_with(rt, alloc, addr, Profile::Lenient)
@@ -237,7 +239,7 @@ impl<R: ServerRuntime> Server<R> {
         Server::new_with(rt, alloc, ServerConfig { addr, ssl: None }, profile)
     }
 
-    /// Makes a server at this path, where it makes the file of a Unix socket. Fails as `new` does.
+    /// Makes a server on a Unix socket, whose file it creates at this path. Fails as `new` does.
     pub fn http_unix(rt: R, alloc: Global, path: Path<'_>) -> Result<Server<R>, ServerError> {
         let path = PathBuf::from_str(alloc, path.path_text()).map_err(|_| ServerError::Memory)?;
         let addr = ConfigListenAddr::unix_from_path(path);
@@ -245,7 +247,8 @@ impl<R: ServerRuntime> Server<R> {
     }
 
     /// Makes a server with these settings. Heads are read under `Lenient`. Fails with `Io` if it can't listen on the
-    /// address, and otherwise as `from_listener` does. If it fails, it leaves no file of a Unix socket that it made.
+    /// address, and otherwise as `from_listener` does. If it fails after creating the file of a Unix socket, it removes
+    /// that file.
     pub fn new(rt: R, alloc: Global, config: ServerConfig) -> Result<Server<R>, ServerError>
         ensures ssl { IsSome config.ssl → IsErr result }
         ensures refused { result ≡ Err ServerError.Ssl → IsSome config.ssl }
@@ -266,11 +269,13 @@ impl<R: ServerRuntime> Server<R> {
         Server::bound(rt, alloc, config, profile, None)
     }
 
-    /// Makes a server as `new_with` does, but with these limits for its clients, as a server for untrusted clients
-    /// needs them. After a temporary accept error, such as a lack of descriptors or a connection that its client has
-    /// reset, it waits and tries again. If the address is the path of a Unix socket on which no process listens, the
-    /// socket's file is removed first. If more than 1,000 connections are allowed, as many descriptors are opened for a
-    /// moment; if the process may not open them, the error is `TooFewDescriptors`.
+    /// Makes a server as `new_with` does, but with these limits on its clients, which a server for untrusted clients
+    /// needs. After a temporary accept error, such as a lack of descriptors or a connection that its client has reset,
+    /// the server waits and tries again. If the address is the path of a Unix socket on which no process listens, the
+    /// socket's file is removed first.
+    ///
+    /// If the limits allow more than 1,000 connections, the call opens that many descriptors for a moment, and fails
+    /// with `TooFewDescriptors` if the process can't open them all.
     pub fn with(
         rt: R,
         alloc: Global,
@@ -287,7 +292,7 @@ impl<R: ServerRuntime> Server<R> {
         Server::bound(rt, alloc, config, profile, Some(limits))
     }
 
-    // Makes a server with these settings and limits, if any.
+    // Makes a server with these settings, and with limits if there are any.
     fn bound(
         rt: R,
         alloc: Global,
@@ -309,13 +314,13 @@ impl<R: ServerRuntime> Server<R> {
         made
     }
 
-    /// Makes a server over this listening socket, which has to be blocking: on a nonblocking socket accepting ends with
-    /// `WouldBlock`. Heads are read under `Lenient`. The file of a Unix socket is removed when the server is stopped or
-    /// dropped.
+    /// Makes a server over this listening socket, which has to be blocking: on a nonblocking socket, accepting ends
+    /// with `WouldBlock`. Heads are read under `Lenient`. The file of a Unix socket is removed when the server is
+    /// stopped or dropped.
     ///
-    /// Fails with `Ssl` if there are TLS settings, with `Io` if the socket has no address or the system has no thread
-    /// or descriptor for the server, and with `Memory` if memory can't be allocated. If it fails, the file of a Unix
-    /// socket stays.
+    /// Fails with `Ssl` if there are TLS settings, with `Io` if the socket has no address or a thread or a descriptor
+    /// for the server can't be created, and with `Memory` if memory can't be allocated. If it fails, the file of a Unix
+    /// socket isn't removed.
     pub fn from_listener(
         rt: R,
         alloc: Global,
@@ -342,8 +347,9 @@ impl<R: ServerRuntime> Server<R> {
         Server::over_unless_ssl(rt, alloc, listener, ssl, profile, None)
     }
 
-    /// Makes a server over this listening socket as `from_listener_with` does, but with these limits for its clients
-    /// and with the accept loop of `with`. Also fails with `TooFewDescriptors`, as `with` does.
+    /// Makes a server over this listening socket as `from_listener_with` does, but with these limits on its clients.
+    /// The server handles temporary accept errors as one made by `with` does. Also fails with `TooFewDescriptors`, as
+    /// `with` does.
     pub fn from_listener_within(
         rt: R,
         alloc: Global,
@@ -358,7 +364,8 @@ impl<R: ServerRuntime> Server<R> {
         Server::over_unless_ssl(rt, alloc, listener, ssl, profile, Some(limits))
     }
 
-    // Makes a server over this listening socket, with these limits, if any. Fails if there are TLS settings.
+    // Makes a server over this listening socket, with limits if there are any. Fails with `Ssl` if there are TLS
+    // settings, and otherwise as `from_listener_within` does.
     fn over_unless_ssl(
         rt: R,
         alloc: Global,
@@ -429,7 +436,7 @@ impl<R: ServerRuntime> Server<R> {
 }
 
 impl<R: Net + SocketFiles + Wait + Clock + Drop> Server<R> {
-    /// Returns the requests, one after another.
+    /// Returns an `IncomingRequests`, which hands out the requests one after another.
     pub fn incoming_requests(&self) -> IncomingRequests<'_, R> {
         IncomingRequests { server: self }
     }
@@ -442,29 +449,30 @@ impl<R: Net + SocketFiles + Wait + Clock + Drop> Server<R> {
         }
     }
 
-    /// Returns how many accepted clients are connected. A client counts until all its requests are answered and its
-    /// connection is closed.
+    /// Returns the number of accepted clients that are connected. A client counts until all its requests are answered
+    /// and its connection is closed.
     pub fn num_connections(&self) -> usize {
         self.registry.count(&self.rt)
     }
 
-    /// Returns what the server has counted since it began.
+    /// Returns the server's counts since it started.
     pub fn counts(&self) -> Counts {
         self.registry.counts(&self.rt)
     }
 
-    /// Returns how many times accepting failed and then continued, as it does only under limits.
+    /// Returns the number of failed attempts to accept a client after which the server continued. It continues only
+    /// under limits.
     pub fn accept_faults(&self) -> u64 {
         self.registry.accept_faults(&self.rt)
     }
 
-    /// Waits for a request. Fails with the error that ended accepting, which one call reports, or with kind `Other` if
-    /// `unblock` was called. After an accept error no further client is accepted, and requests come only from clients
-    /// that were accepted before.
+    /// Waits for a request. Fails with the error that ended accepting, which only one call reports, or with kind
+    /// `Other` if `unblock` was called. Once accepting has ended, requests come only from clients that were accepted
+    /// before.
     ///
-    /// Once the server serves with a handler, `recv` returns only requests that were read before that, or came in one
-    /// piece with one that was. If a client waits for the next call to `serve`, `recv` fails at once with kind `Other`,
-    /// as if `unblock` had been called.
+    /// Once the server serves with a handler, `recv` returns only requests that were read before that, or that arrived
+    /// together with such a request. If a client waits for the next call to `serve`, `recv` fails at once with kind
+    /// `Other`, as if `unblock` had been called.
     ///
     /// Once the server has been stopped, each call fails with kind `Other`. A server with limits doesn't hand out a
     /// request if an earlier response on its connection broke off or ended the output: the response to the request
@@ -481,8 +489,8 @@ impl<R: Net + SocketFiles + Wait + Clock + Drop> Server<R> {
         Err(ErrorKind::Other.into())
     }
 
-    /// Returns a request if one has come, without waiting, and `None` if `recv` would wait or fail with kind `Other`.
-    /// Fails with the error that ended accepting, which one call reports.
+    /// Returns a request if one is available, without waiting, and `None` if `recv` would wait or fail with kind
+    /// `Other`. Fails with the error that ended accepting, which only one call reports.
     pub fn try_recv(&self) -> io::Result<Option<ServerRequest<R>>> {
         for _ in self.rt.forever() {
             let popped = self.queuing.messages.try_pop(&self.rt);
@@ -494,8 +502,8 @@ impl<R: Net + SocketFiles + Wait + Clock + Drop> Server<R> {
         Ok(None)
     }
 
-    // Converts a queue message to the result of `recv`. Once the server has been stopped, the result is `None`, and
-    // another waiting call returns, too.
+    // Converts the result of a pop to that of `try_recv`. Once the server has been stopped, returns `None`, and makes
+    // another waiting call return, too.
     fn received(&self, popped: Option<Message<R>>) -> io::Result<Option<ServerRequest<R>>> {
         if self.has_stopped() {
             let _ = self.queuing.messages.unblock(&self.rt);
@@ -504,7 +512,8 @@ impl<R: Net + SocketFiles + Wait + Clock + Drop> Server<R> {
         Message::received(&self.queuing.messages, &self.rt, popped)
     }
 
-    /// Makes one call that waits for a request, now or later, return without one. Fails if memory can't be allocated.
+    /// Makes one call that waits for requests, such as `recv` or `serve`, return without one: a call that waits now, or
+    /// a later one. Fails if memory can't be allocated.
     pub fn unblock(&self) -> Result<(), AllocError> {
         self.queuing.messages.unblock(&self.rt)
     }
@@ -514,14 +523,15 @@ impl<R: Net<Listener = TcpListener, Stream = TcpStream> + SocketFiles + Wait + C
     R,
 > {
     /// Stops the server, from any thread. No further client is accepted, connections that wait for a head are closed,
-    /// and requests in the queue are dropped, so that they get a 500. The handler of `serve` still gets each request
-    /// whose head has come. A connection with an open request is closed after its last response, which says so under
-    /// `Standard` unless it had begun.
+    /// clients that wait for a call to `serve` are disconnected, and requests in the queue are dropped, so that they
+    /// get a 500. The handler of `serve` still gets each request whose head has been read. A connection with an open
+    /// request is closed after its last response, which says so under `Standard` unless that response had already
+    /// begun.
     ///
     /// The call waits, for at most `time`, until every request that was handed out is answered and every connection is
-    /// closed; then each call that waits for a request, and `serve`, returns. A later call waits again for what is
-    /// left. If a handler makes this call, the call waits for that handler's own request, too, and so takes the whole
-    /// time. The call takes longer if a client doesn't read a 500 that the call sends.
+    /// closed; then `serve` and each call that waits for a request return. A later call to `stop` waits again, for the
+    /// connections that are left. If a handler makes this call, the call waits for that handler's own request, too, and
+    /// so takes the whole time. The call takes longer than `time` if a client doesn't read a 500 that the call sends.
     pub fn stop(&self, time: Duration) -> Stopped {
         let begun = time_of(&self.rt);
         self.queuing.ending.begin_stop();
@@ -530,7 +540,7 @@ impl<R: Net<Listener = TcpListener, Stream = TcpStream> + SocketFiles + Wait + C
         self.queuing.drop_waiting(&self.rt);
         let is_empty = self.registry.wait_until_empty(&self.rt, begun, time);
         if !self.queuing.ending.has_accepted_all() {
-            // There may have been no descriptor for this connection before.
+            // The earlier attempt, in `end_accepting`, may have failed for lack of a descriptor.
             self.connect_to_itself();
         }
         self.queuing.ending.stop();
@@ -543,8 +553,8 @@ impl<R: Net<Listener = TcpListener, Stream = TcpStream> + SocketFiles + Wait + C
 }
 
 impl<R: Net + SocketFiles + Wait + Clock + Drop> Server<R> {
-    /// Waits for a request for at most `timeout`, and returns `None` if none has come by then. A timeout of less than a
-    /// millisecond counts as 0. Otherwise the call is like `try_recv`.
+    /// Waits for a request for at most `timeout`, and returns `None` if none has arrived by then. A timeout of less
+    /// than a millisecond counts as 0. Otherwise the call is like `try_recv`.
     pub fn recv_timeout(&self, timeout: Duration) -> io::Result<Option<ServerRequest<R>>> {
         let begun = time_of(&self.rt);
         let mut left = timeout;
@@ -561,8 +571,8 @@ impl<R: Net + SocketFiles + Wait + Clock + Drop> Server<R> {
 }
 
 impl<R: Net + SocketFiles + Wait + Clock + Drop> Server<R> {
-    // Ends accepting, for which the server connects to itself once, and removes the file of a Unix socket. A second
-    // call does nothing.
+    // Ends accepting, and removes the file of a Unix socket. To wake the accepting thread, the server connects to
+    // itself once. A second call does nothing.
     fn end_accepting(&self) {
         if !self.queuing.ending.close() {
             return;
@@ -589,15 +599,15 @@ impl<R: Net + SocketFiles + Wait + Clock + Drop> Server<R> {
         }
     }
 
-    // Returns whether a call to `stop` has finished its wait: all was answered, or the time had run out.
+    // Returns whether a call to `stop` has finished its wait: everything was answered, or the time had run out.
     pub(crate) fn has_stopped(&self) -> bool {
         self.queuing.ending.has_stopped()
     }
 }
 
 impl<R: Net + SocketFiles + Wait + Clock + Drop> Drop for Server<R> {
-    /// Ends accepting, for which the server connects to itself once, drops the requests in the queue, and removes the
-    /// file of a Unix socket.
+    /// Ends accepting, for which the server connects to itself once, removes the file of a Unix socket, and drops the
+    /// requests and the clients in the queue.
     fn drop(self) {
         self.end_accepting();
         self.queuing.drop_waiting(&self.rt);
@@ -611,7 +621,7 @@ impl<R: Net + SocketFiles + Wait + Clock + Drop> Drop for Server<R> {
     }
 }
 
-// Removes the file of a Unix socket on which no process listens.
+// Removes the file at this path if it is a Unix socket on which no process listens.
 fn remove_stale<R: Net<Listener = TcpListener, Stream = TcpStream> + SocketFiles>(
     rt: &R,
     path: Path<'_>,
@@ -634,7 +644,8 @@ pub struct IncomingRequests<'a, R: Net + SocketFiles + Wait + Clock + Drop> {
 
 impl<R: Net + SocketFiles + Wait + Clock + Drop> IncomingRequests<'_, R> {
     /// Waits for the next request. Returns `None` if `recv` fails: once for the error that ended accepting, once for
-    /// each `unblock`, and if a client waits for `serve`. A later call waits again, unless the server has been stopped.
+    /// each `unblock`, each time while a client waits for a call to `serve`, and always once the server has been
+    /// stopped. In the first two cases a later call waits again.
     pub fn next(&mut self) -> Option<ServerRequest<R>> {
         self.server.recv().ok()
     }

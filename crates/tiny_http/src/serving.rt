@@ -1,6 +1,6 @@
-//! Serving with a handler. With `serve` a worker takes a connection once a request has come, and responds itself,
-//! without another thread between; consecutive responses leave together. A connection that waits takes no worker. With
-//! `serve_by` a fixed number of threads receive the requests of all connections.
+//! Serving with a handler. With `serve`, a worker takes a connection once a request has arrived, and responds itself,
+//! without handing the request to another thread; consecutive responses leave together. A connection that waits takes
+//! no worker. With `serve_by`, a fixed number of threads receive the requests of all connections.
 use crate::accepting::Message;
 use crate::arrival::Arrival;
 use crate::crew::{Crew, Progress, Task};
@@ -12,32 +12,33 @@ use std::sync::{Arc, Wait};
 use std::time::Clock;
 use std::{io, thread};
 
-/// A handler of requests. `Q` is `ServerRequest<R>`, or any `Request`, so that a test can make one. Many threads call
-/// it at once. (The request's type is a parameter, since no generated proof covers an implementation whose trait names
-/// that type itself.)
+/// A handler of requests. `Q` is `ServerRequest<R>`, or any other `Request`, such as one that a test makes. Many
+/// threads may call the handler at once. (The request's type is a parameter because no generated proof covers an
+/// implementation of a trait that names that type itself.)
 pub trait Handler<R, Q> {
-    /// Responds to a request. A request that is dropped gets an empty 500, even if this call fails and so drops it. The
-    /// server ignores the error.
+    /// Responds to a request. If the request is dropped without a response, for example because this call fails, it
+    /// gets an empty 500. The server ignores the error.
     ///
     /// Under `serve_by` the call may wait for the request's turn, as a program that calls `recv` and `respond` does.
     /// The rest of this comment is about `serve`.
     ///
-    /// The call may keep the request and respond later from any thread. The next request is handed out meanwhile, once
-    /// the body of the kept request has been read or given up, but under `Standard` not before the response to a kept
-    /// request that asks for an upgrade. The response to the next request then waits, in this call, for the response to
-    /// the kept request, and no further request of the connection is handed out meanwhile.
+    /// The call may keep the request and respond later, from any thread. The next request is handed out in the
+    /// meantime, once the body of the kept request has been read or given up; under `Standard`, if the kept request
+    /// asks for an upgrade, the next one is handed out only after the response. The call for the next request then
+    /// waits, when it responds, for the response to the kept request, and no further request of the connection is
+    /// handed out until then.
     ///
     /// What this call writes, up to 16,384 bytes, may be held until it has returned, and so may responses to earlier
-    /// requests of the connection. If a handler does more after its response, if the response's data come slowly, or if
-    /// the handler waits for something else from this client, it should hand the request to another thread and return,
-    /// or take a raw writer and flush that.
+    /// requests of the connection. If a handler does more after its response, if the response's data arrives slowly, or
+    /// if the handler waits for something else from this client, it should hand the request to another thread and
+    /// return, or take a raw writer and flush it.
     fn handle(&self, rt: &R, alloc: Global, request: Q) -> io::Result<()>;
 }
 
 // The task of a worker.
 #[derive(Drop)]
 enum Work<R: Wait + Clock + Drop> {
-    // Responds to the requests of a client as they come, then closes its connection.
+    // Responds to the requests of a client as they arrive, then closes its connection.
     Client(Arrival<R>),
     // Responds to a request that was queued before the server began to serve. `None` once the request has been taken.
     Request(R, Option<ServerRequest<R>>),
@@ -52,7 +53,7 @@ struct Service<H, R: Wait + Clock + Drop> {
 }
 
 impl<H: Handler<R, ServerRequest<R>> + Drop, R: Wait + Clock + Copy> Task for Service<H, R> {
-    /// Carries out the task, as far as it goes without a wait for the client's next head.
+    /// Carries out the task, as far as that is possible without waiting for the client's next head.
     fn run(&mut self, is_late: bool) -> Progress {
         let handler = &*self.handler;
         match &mut self.work {
@@ -71,27 +72,30 @@ impl<H: Handler<R, ServerRequest<R>> + Drop, R: Wait + Clock + Copy> Task for Se
 
 impl<R: ServerRuntime> Server<R> {
     /// Serves with this handler until `unblock` is called, the server has been stopped, or accepting ends with an
-    /// error, which is returned. It also fails if memory, descriptors or threads for its workers are refused. If they
-    /// are refused for a later client, that client is closed.
+    /// error, which is returned. Also fails if memory, descriptors or threads for its workers can't be obtained. A
+    /// later client for which memory can't be allocated or a system call fails is disconnected.
     ///
-    /// A client takes a worker once the head of its next request, with a body that is read with it, has come whole, or
-    /// the time for it is over. The worker hands the client's requests to the handler one after another, until no
-    /// further one has come. A client that is idle, sends a head in pieces or is drained takes no worker; one that is
-    /// upgraded or whose kept request reads the input takes one. There are four workers, and more while all are busy:
-    /// up to `Limits::workers`, or any number without limits. Workers hand the handler the requests that came before
-    /// this call, too.
+    /// A client takes a worker once the head of its next request, with a body that is read with it, has arrived in
+    /// full, or the time allowed for it has run out. The worker hands the client's requests to the handler one after
+    /// another, until no further request has arrived. A client that is idle, sends a head in pieces, or is being
+    /// disconnected takes no worker; one that is upgraded, or whose kept request reads the input, takes one.
     ///
-    /// Responses are held in a buffer of the connection, of 16,384 bytes, so a later response may report a fault of the
-    /// socket. What is held is sent before the connection is read, when more comes than there is room for, when a
-    /// request has to wait for another one, has a body that is read from the connection or asks for an upgrade under
-    /// `Standard`, and at the end. A flush of a raw writer, of an upgraded stream or of a streamed body sends it too,
+    /// There are four workers, or `Limits::workers` if that is less, and more while all are busy: up to
+    /// `Limits::workers`, or any number without limits. Workers also hand the handler the requests that were queued
+    /// before this call.
+    ///
+    /// Each connection holds its responses in a buffer of 16,384 bytes, so a fault of the socket may be reported by a
+    /// later response. What is held is sent before the connection is read; when more is written than there is room for;
+    /// when a request has to wait for another one, has a body that is read from the connection, or asks for an upgrade
+    /// under `Standard`; and at the end. A flush of a raw writer, an upgraded stream or a streamed body sends it, too,
     /// and so does a 100.
     ///
-    /// Once the first workers run, the server serves, even after this call has returned: clients that come then wait
-    /// for the next call. The clients that came before are served until the clients or the server end.
+    /// Once the first workers run, the server serves with a handler for good: clients that arrive after this call has
+    /// returned wait for the next call. Clients that arrived before are served until their connections or the server
+    /// end.
     ///
-    /// A client that reads no response blocks its worker once the socket takes no more, and its further requests aren't
-    /// read then: a client that sends many requests has to read meanwhile.
+    /// A client that doesn't read its responses blocks its worker once the socket accepts no more bytes, and its
+    /// further requests aren't read then: a client that sends many requests has to read responses at the same time.
     pub fn serve<H: Handler<R, ServerRequest<R>> + Send + Sync + Drop + 'static>(
         &self,
         alloc: Global,
@@ -105,7 +109,8 @@ impl<R: ServerRuntime> Server<R> {
         ended
     }
 
-    // Hands the crew one client after another, until `unblock` is called or accepting ends.
+    // Hands the crew one client or queued request after another, until `unblock` is called, the server has been
+    // stopped, or accepting ends with an error, which is returned.
     fn serve_by_crew<H: Handler<R, ServerRequest<R>> + Send + Sync + Drop + 'static>(
         &self,
         alloc: Global,
@@ -143,20 +148,21 @@ impl<R: ServerRuntime> Server<R> {
 }
 
 impl<R: Host> Server<R> {
-    /// Responds with this handler on `threads` threads, each of which receives one request after another, until
-    /// `unblock` is called once, the server has been stopped, or accepting ends with an error, which is returned. It
-    /// returns when all threads have ended, each after its last response. It also fails if memory can't be allocated;
-    /// the threads that were started have ended by then. It returns at once, as `recv` does, if `serve` was called
-    /// before and a client waits for its next call.
+    /// Responds with this handler on `threads` threads, or on fewer if some can't be created. Each receives one request
+    /// after another, until `unblock` is called once, the server has been stopped, or accepting ends with an error,
+    /// which is returned. The call returns when all threads have ended, each after its last response. It also fails if
+    /// memory can't be allocated; the threads that were started have ended by then. It returns at once, as `recv` does,
+    /// if `serve` was called before and a client waits for its next call.
     ///
     /// This is the loop over `recv` that a program would write. Each response is sent when the handler makes it, and a
-    /// request may be kept and answered later. An error of the handler is ignored. With 0 threads nothing is answered.
+    /// request may be kept and answered later. An error of the handler is ignored. With 0 threads the call returns at
+    /// once, and nothing is answered.
     ///
-    /// A thread waits for the turn of its response, for a client that takes no more, and for bytes of a body. So one
-    /// client that sends as many requests as there are threads, and reads slowly, blocks them all: under limits
-    /// (`Server::with`) for as long as `least_rate` allows a response of that length, and without them forever. With
-    /// `serve` a client blocks only its own worker, and a request takes fewer instructions. So this call is for short
-    /// responses to trusted clients.
+    /// A thread waits for the turn of its response, for a client that accepts no more bytes, and for bytes of a body.
+    /// So one client that sends as many requests as there are threads, and reads slowly, blocks them all: under limits
+    /// (`Server::with`) for as long as `least_rate` allows for a response of that length, and without limits possibly
+    /// forever. With `serve` a client blocks only its own worker, and a request takes fewer instructions. So this call
+    /// is for short responses to trusted clients.
     pub fn serve_by<H: Handler<R, ServerRequest<R>> + Sync>(
         &self,
         alloc: Global,
@@ -176,7 +182,7 @@ impl<R: Host> Server<R> {
         Ok(())
     }
 
-    // Responds to requests until no more come, and then unblocks another thread if one still runs.
+    // Responds to requests as `answer_until_unblocked` does, and then unblocks another thread if one still runs.
     fn answer_on<H: Handler<R, ServerRequest<R>>>(
         &self,
         alloc: Global,
@@ -190,7 +196,7 @@ impl<R: Host> Server<R> {
         ended
     }
 
-    // Responds to requests until no more come. Fails with the error that ended accepting.
+    // Responds to requests until `recv` fails with kind `Other`. Fails with the error that ended accepting.
     fn answer_until_unblocked<H: Handler<R, ServerRequest<R>>>(
         &self,
         alloc: Global,

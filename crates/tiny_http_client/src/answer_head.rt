@@ -74,7 +74,7 @@ fn headers_at(
 }
 
 /// Reads the head of a response from the front of `bytes`, and returns it with the number of bytes read (RFC 9112,
-/// sections 2.2, 4 and 5): a status line in version 1.0 or 1.1 with a status of three digits, and field lines up to an
+/// sections 2.2, 4 and 5): a status line with version 1.0 or 1.1 and a status of three digits, and field lines up to an
 /// empty line. White space around a value is optional, a line may end in LF alone, and empty lines may come first. The
 /// body follows the head, as its status and headers and the request's method determine (section 6.3). Returns `None` if
 /// the bytes end before the head does and further bytes can still complete it.

@@ -44,8 +44,8 @@ pub(crate) struct HeadParts {
     pub(crate) headers: Vec<Header>,
 }
 
-// Parses the decimal number before the first `c`, at most `most`, and returns it with the text after that `c`. Returns
-// `None` if there is no `c`, or no such number before it.
+// Parses the decimal number, of at most `most`, before the first `c`, and returns it with the text after that `c`.
+// Returns `None` if there is no `c`, or no such number before it.
 fn decimal_until(text: &[u8], c: u8, most: usize) -> Option<(usize, &[u8])>
     requires { AreAscii text.now }
     ensures some { IfSome result (λ r. (decimal_until most c text.now ≡ Some (r.0, r.1.now)) × AreAscii r.1.now) }

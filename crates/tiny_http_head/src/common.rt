@@ -23,7 +23,7 @@ use tiny_http_text::bytes::{are_ascii, cut, has_no_blank, is, is_trimmed, trim};
 use tiny_http_text::copies::owned;
 use tiny_http_text::number::Numeral;
 
-/// The error returned when a text is parsed or a header is made from texts.
+/// The error returned when a text can't be parsed or a header can't be made from texts.
 #[derive(Clone, Copy, Debug, PartialEq, Eq, Error)]
 pub enum ParseError {
     /// The text doesn't match the grammar.
@@ -214,7 +214,8 @@ impl From<u32> for StatusCode {
     }
 }
 
-/// An HTTP version: its major and minor numbers, ordered by the major number first (RFC 9110, section 2.5).
+/// An HTTP version, as its major and minor numbers (RFC 9110, section 2.5). Versions are ordered by major number, then
+/// by minor number.
 #[derive(Clone, Copy, Debug, PartialEq, Eq, PartialOrd, Ord)]
 pub struct HTTPVersion(pub u8, pub u8);
 
@@ -310,7 +311,7 @@ impl HeaderField {
         Ok(HeaderField { text })
     }
 
-    /// Makes a name from any ASCII text. It is for the crates that build on this one.
+    /// Makes a name from any ASCII text. Intended for the crates that build on this one.
     pub fn from_text(text: AsciiString) -> HeaderField
         ensures { result ≡ text }
     {
@@ -476,11 +477,11 @@ impl Header {
     ghost use Rattle.tiny_http_head.specs.Heads.{IsHeader};
     ghost use Rattle.tiny_http_head.specs.HeaderTexts.{AreHeaderTexts, header_of};
 
-    /// Makes a header from a name and a value, unchanged. Its recipient parses that name and value and nothing else,
-    /// even if they contain text from a client. The name must be a token (RFC 9110, section 5.6.2): one or more ASCII
-    /// letters, digits or bytes of ``!#$%&'*+-.^_`|~``. The value must consist of visible ASCII bytes, spaces and tabs,
-    /// without a space or tab at its ends; it may be empty (RFC 9110, section 5.5). Fails with `Refused` for any other
-    /// name or value, such as one with CR, LF or NUL, and only then; with `Memory` if memory can't be allocated.
+    /// Makes a header from a name and a value, unchanged. A recipient parses exactly this name and value, and nothing
+    /// else, even if they contain text from a client. The name must be a token (RFC 9110, section 5.6.2): one or more
+    /// ASCII letters, digits or bytes of ``!#$%&'*+-.^_`|~``. The value must consist of visible ASCII bytes, spaces and
+    /// tabs, without a space or tab at its ends; it may be empty (RFC 9110, section 5.5). Fails with `Refused` for any
+    /// other name or value, such as one with CR, LF or NUL, and only then; with `Memory` if memory can't be allocated.
     #[tactic(auto, using(crate::proofs::HeaderTextsLemmas::token_ascii))]
     pub fn new(alloc: Global, name: &str, value: &str) -> Result<Header, ParseError>
         ensures ok { IfOk result (λ h. (h ≡ header_of name.now value.now) × AreHeaderTexts name.now value.now) }
@@ -545,7 +546,7 @@ impl From<Header> for io::Error {
 
     ghost from_gives = { λ _ fault. error_kind fault ≡ OutOfMemory };
 
-    /// Returns `OutOfMemory`, since only a call that was refused memory for a header hands the header back. The header
+    /// Returns `OutOfMemory`, since a call hands a header back only if memory for it couldn't be allocated. The header
     /// is dropped.
     fn from(_header: Header) -> io::Error {
         ErrorKind::OutOfMemory.into()

@@ -58,8 +58,8 @@ pub(crate) fn one_less(room: Option<usize>) -> Option<usize>
     }
 }
 
-// Appends a byte that doesn't end the line. A CR is held back until the byte after it is known; `after_return` says
-// whether a CR is held back. Fails with `Memory` if memory can't be allocated.
+/// Appends a byte that doesn't end the line. A CR is held back until the byte after it is known; `after_return` says
+/// whether a CR is held back. Fails with `Memory` if memory can't be allocated.
 pub(crate) fn go_on(text: &mut Vec<u8>, after_return: &mut bool, b: u8) -> Result<(), LineFault>
     requires not_end { after_return.old ≡ true → b ≢ 10 }
     requires passed { BeginsNoLineEnd text.old.items (held_return after_return.old) }

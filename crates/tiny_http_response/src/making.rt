@@ -1,4 +1,4 @@
-//! Responses made from status codes, headers made from texts, and the conversion of refused memory to `io::Error`.
+//! Responses made from status codes, headers made from texts, and the conversion of allocation failures to `io::Error`.
 ghost use Rattle.std.specs.Prelude.{◌≡◌, ◌↔◌, ◌∷◌, [], IfOk, OnOk, IsErrOf, length, string_bytes};
 ghost use Rattle.tiny_http_io.specs.Cursor.{cursor_bytes};
 ghost use Rattle.tiny_http_head.specs.HeaderTexts.{AreHeaderTexts, header_of};
@@ -41,9 +41,10 @@ impl Response<Cursor<Vec<u8>>> {
 
 impl<R> Response<R> {
     /// Adds the header that `Header::new` makes from this name and value, as `add_header` does, which ignores
-    /// `Connection`, `Trailer`, `Transfer-Encoding` and `Upgrade`. Fails with `Refused` exactly if the texts make no
-    /// header, and with `Memory` if memory can't be allocated. Both errors drop the response; `with_header` hands it
-    /// back. In a function that returns `io::Result`, `?` converts them to `InvalidInput` and `OutOfMemory`.
+    /// `Connection`, `Trailer`, `Transfer-Encoding`, `Upgrade` and a malformed `Content-Length`. Fails with `Refused`
+    /// exactly if the texts make no header, and with `Memory` if memory can't be allocated. Both errors drop the
+    /// response; `with_header` hands it back. In a function that returns `io::Result`, `?` converts them to
+    /// `InvalidInput` and `OutOfMemory`.
     pub fn with(self, alloc: Global, name: &str, value: &str) -> Result<Response<R>, ParseError>
     where
         R: Drop,

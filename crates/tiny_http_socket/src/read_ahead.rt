@@ -25,8 +25,8 @@ pub trait BeforeRead {
         ensures { Self.does self.old self.new };
 }
 
-/// A reader that reads ahead up to 16,384 bytes at once. It calls the inner reader only if a byte is requested and none
-/// is held.
+/// A reader that reads ahead up to 16,384 bytes at once, and holds them until they are requested. `read_after` calls
+/// the inner reader only if a byte is requested and none is held; `read_ahead` calls it even if bytes are held.
 #[derive(Drop)]
 pub struct ReadAhead<R: ReadDevice> {
     reader: R,
@@ -34,7 +34,7 @@ pub struct ReadAhead<R: ReadDevice> {
     piece: Vec<u8>,
     start: usize,
     end: usize,
-    // Whether the last read of the inner reader returned fewer bytes than it asked for, but not none, or failed.
+    // Whether the last read from the inner reader returned at least one byte but fewer than it asked for, or failed.
     is_drained: bool,
 }
 
@@ -48,12 +48,12 @@ impl<R: ReadDevice> Model for ReadAhead<R> {
     ghost view = { λ a. record
         { held = take (a.end - a.start) (drop a.start a.piece.items); reader = a.reader; feed = R.feed a.reader } };
 
-    // The memory is whole, or there is none.
+    // The memory for a whole piece is allocated, or none is.
     ghost invariant = { λ a. (a.start ≤ a.end) × (a.end ≤ vec_len a.piece)
         × ((vec_len a.piece ≡ PIECE) ⊎ (vec_len a.piece ≡ 0)) };
 }
 
-// Takes the memory for a piece, if it was freed. Returns false, with nothing changed, if memory can't be allocated.
+// Allocates the memory for a piece, if it was freed. Returns false, with nothing changed, if memory can't be allocated.
 fn take_piece(piece: &mut Vec<u8>) -> bool
     requires { (vec_len piece.old ≡ PIECE) ⊎ (vec_len piece.old ≡ 0) }
     ensures taken { result ≡ true → vec_len piece.new ≡ PIECE }
@@ -84,7 +84,7 @@ fn move_to_front(piece: &mut [u8], start: usize, end: usize)
     }
 }
 
-// Reads once into the room after the first `end` bytes of a piece, and returns how many bytes came.
+// Reads once into the room after the first `end` bytes of a piece, and returns the number of bytes read.
 fn read_after_held<R: ReadDevice>(
     reader: &mut R,
     piece: &mut [u8],
@@ -167,9 +167,9 @@ impl<R: ReadDevice> ReadAhead<R> {
         Ok(true)
     }
 
-    /// Reads some bytes into the front of `buf`, and returns their number. Held bytes come first. If there are none, it
-    /// runs `before` and calls the inner reader: for at most a piece, or directly into `buf` if that has room for a
-    /// piece. An empty `buf` changes nothing.
+    /// Reads some bytes into the front of `buf`, and returns their number. Held bytes come first. If there are none,
+    /// takes the action `before` and calls the inner reader: for at most a piece, or directly into `buf` if that has
+    /// room for a piece or memory for a piece can't be allocated. An empty `buf` changes nothing.
     pub fn read_after<B: BeforeRead>(
         &mut self,
         before: &mut B,
@@ -235,9 +235,9 @@ impl<R: ReadDevice> ReadAhead<R> {
         }
     }
 
-    /// Reads once from the inner reader, as many bytes as there is room for after the held ones, and returns how many
-    /// came: 0 at the end, or if there is no room. Fails with the inner reader's fault, or with `OutOfMemory` if memory
-    /// can't be allocated.
+    /// Reads once from the inner reader, at most as many bytes as there is room for after the held ones, and returns
+    /// the number of bytes read: 0 at the end, or if there is no room. Fails with the inner reader's fault, or with
+    /// `OutOfMemory` if memory can't be allocated.
     pub fn read_ahead(&mut self) -> Result<usize, io::Error>
         ensures feed { ahead_feed self.new ≡ ahead_feed self.old }
         ensures count { IfOk result (λ n. length self.new.held ≡ length self.old.held + n) }
@@ -257,7 +257,8 @@ impl<R: ReadDevice> ReadAhead<R> {
         Ok(n)
     }
 
-    /// Frees the memory of the bytes that are read ahead, if none is held. The next read that needs it takes it again.
+    /// Frees the memory for bytes that are read ahead, if no such bytes are held. The next read that needs it allocates
+    /// it again.
     pub fn release(&mut self)
         ensures { self.new ≡ self.old }
     {

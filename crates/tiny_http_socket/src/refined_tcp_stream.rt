@@ -12,12 +12,12 @@ use std::net::{Shutdown, SocketAddr};
 use std::sync::Arc;
 use tiny_http_io::device::{ReadDevice, WriteDevice};
 
-/// A direction of a connection.
+// A direction of a connection.
 #[derive(Clone, Copy, Debug, PartialEq, Eq)]
 enum Half {
-    /// From the client.
+    // From the client.
     Reading,
-    /// To the client.
+    // To the client.
     Writing,
 }
 

@@ -17,7 +17,7 @@ use tiny_http_text::ascii::AsciiString;
 use tiny_http_text::bytes::{are_ascii, cut, is};
 use tiny_http_text::copies::owned;
 
-// Parses a version: `HTTP/`, a digit, a point and a digit.
+// Parses a version: `HTTP/`, a digit, a dot and a digit.
 fn version_in(text: &[u8]) -> Option<HTTPVersion>
     ensures some { IfSome result (λ v. IsVersion text.now v) }
     ensures none { IfNone result (IsNoVersion text.now) }
@@ -31,7 +31,7 @@ fn version_in(text: &[u8]) -> Option<HTTPVersion>
     Some(HTTPVersion(*major - b'0', *minor - b'0'))
 }
 
-// Returns the bytes before the first slash or question mark.
+// Returns the bytes before the first slash or question mark, or all bytes if there is neither.
 fn authority_in(text: &[u8]) -> &[u8]
     ensures { result.now ≡ authority_in text.now }
 {
@@ -113,7 +113,7 @@ fn split_request_line(text: &[u8]) -> Option<(&[u8], &[u8], HTTPVersion)>
 /// The target has only bytes 33 to 126. For `CONNECT` it is a host and a port from 1 to 65535 (`hosts::is_authority`).
 /// Otherwise it begins with `/`, or is `*` for `OPTIONS`, or begins with `http://` or `https://`, compared
 /// case-insensitively, followed up to the next `/` or `?` by a nonempty host, with or without a port
-/// (`hosts::is_host_with_port`). The version is `HTTP/`, a digit, a point and a digit; `validation::validate` checks
+/// (`hosts::is_host_with_port`). The version is `HTTP/`, a digit, a dot and a digit; `validation::validate` checks
 /// whether it is supported.
 pub fn parse_request_line(
     alloc: Global,
