@@ -91,7 +91,7 @@ pub fn read_head_alone(
     }
 }
 
-// Number of reads after which data that have not ended count as endless.
+// Number of reads after which data that has not ended counts as endless.
 const MOST_READS: u64 = 1_000_000;
 
 /// Reads the remaining bytes. Returns them, and how they end, which is `None` if they have not ended after `MOST_READS`
@@ -112,7 +112,7 @@ pub fn drain<R: ReadDevice>(
     Ok((bytes, None))
 }
 
-// Adds how data end.
+// Adds how the data ends.
 fn add_stop(alloc: Global, to: &mut Vec<Finding>, stop: Option<Stop>) -> Result<(), AllocError> {
     match stop {
         Some(Stop::End) => add(alloc, to, "end", b""),
@@ -141,7 +141,7 @@ fn is_settled(
     Ok(is_over(alloc, decoder, stop)? && is_over_once)
 }
 
-// Adds the data of a body and how they end. Also adds `changed` if a read into an empty buffer does not return 0, and
+// Adds the data of a body and how it ends. Also adds `changed` if a read into an empty buffer does not return 0, and
 // again if later reads do not repeat the end.
 fn read_body(
     alloc: Global,
@@ -165,8 +165,8 @@ pub fn data_of(alloc: Global, input: &Input) -> Result<Canned, AllocError> {
     Ok(Canned::new(input.bytes.as_slice().to_vec(alloc)?, input.stop))
 }
 
-/// Decodes a body under these rules, from a reader that returns at most `piece` bytes a call. Adds the data, how they
-/// end, and what is left in the reader.
+/// Decodes a body under these rules, from a reader that returns at most `piece` bytes a call. Adds the data, how it
+/// ends, and what is left in the reader.
 pub fn decode(
     alloc: Global,
     rules: ChunkRules,
@@ -182,7 +182,7 @@ pub fn decode(
     add(alloc, to, "rest", rest.as_slice())
 }
 
-/// Adds what is left in a reader.
+/// Adds what is left in a reader, as a result of kind `left`.
 pub fn add_left(
     alloc: Global,
     reader: &mut Canned,

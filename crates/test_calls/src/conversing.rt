@@ -145,7 +145,7 @@ fn add_parts(
     add_outlet(alloc, outlet, to)
 }
 
-/// Adds the results of the last call, `last`, the number of reads from the client, and what the writer has flushed. If
+/// Adds the results of the last call (`last`), the number of reads from the client, and what the writer has flushed. If
 /// `is_past` holds, that is, after the last call of the row, adds instead what is left in the source and the outlet,
 /// and what the writer accepted.
 pub fn add_outcome(

@@ -8,7 +8,7 @@ use test_data_files::fault::LineFault;
 use test_data_files::kinds::kind_of;
 use test_data_files::text::text_of;
 
-/// A 200 response whose data record how much of them is read.
+/// A 200 response whose data records how much of it is read.
 #[derive(Drop)]
 pub struct WatchedAnswer {
     /// The number of the request.
@@ -71,9 +71,9 @@ pub enum Deed {
     Script(String),
     /// `read_body` of the request with this number, into a buffer of this size.
     ReadBody(u64, usize),
-    /// Responds to a request with data that record how much of them is read.
+    /// Responds to a request with data that records how much of it is read.
     Answer(WatchedAnswer),
-    /// Upgrades the request with this number to this protocol, with a 200 whose data record how much of them is read.
+    /// Upgrades the request with this number to this protocol, with a 200 whose data records how much of it is read.
     Upgrade(u64, String),
     /// `give_up` of the request with this number.
     GiveUp(u64),
@@ -211,7 +211,8 @@ fn conversing(alloc: Global, part: &str) -> Result<Deed, LineFault> {
     }
 }
 
-/// Parses a call on a value of this kind. Fails if such a value has no such call.
+/// Parses a call on a value of this kind. Fails if it is not a call of the value's group: readers, writers, streams,
+/// turns, or connections and requests. A call that the group has but the value lacks gets the reply `no such call`.
 pub fn deed_in(alloc: Global, subject: Subject, part: &str) -> Result<Deed, LineFault> {
     let (name, words) = split(part);
     match subject {

@@ -155,7 +155,7 @@ const PIECE: u64 = 8_192;
 // Maximum number of bytes that a response reads at a time from its data.
 const LARGE_PIECE: u64 = 65_536;
 
-/// The data of a response, which record how much of them is read.
+/// The data of a response, which records how much of it is read.
 #[derive(Drop)]
 pub struct Watched {
     inner: Canned,
@@ -166,7 +166,7 @@ pub struct Watched {
 }
 
 impl Watched {
-    /// Creates data with these bytes. After the bytes, a read fails with `fault`, or ends if it is `None`.
+    /// Creates data with these bytes. After them, a read fails with `fault`, or reports the end if `fault` is `None`.
     pub fn new(
         alloc: Global,
         bytes: &[u8],
@@ -181,8 +181,8 @@ impl Watched {
         })
     }
 
-    /// Returns how much was read: `nothing` if no read was made, `a piece` if at most 8,192 bytes were read, or 65,536
-    /// of data that have as many, or `more`.
+    /// Returns how much was read: `nothing` if no read was made, `a piece` if at most 8,192 bytes were read (or at most
+    /// 65,536, if the data has at least that many), and otherwise `more`.
     pub fn reads(&self) -> &'static str {
         if self.calls == 0 {
             "nothing"

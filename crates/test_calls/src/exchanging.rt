@@ -1,4 +1,4 @@
-//! Makes successive calls on requests that are read without a driver, each an `Exchange`.
+//! Makes successive calls on requests that are read without a `Connection`, each an `Exchange`.
 use crate::conversing::{Callee, add_outcome, call_each, lent, step_of};
 use crate::deeds::{Deed, WatchedAnswer};
 use crate::devices::{Below, Client, Taker, Watched};
@@ -45,7 +45,7 @@ fn send(outlet: &mut Outlet<Below>, text: &[u8]) {
     drop(outlet.flush());
 }
 
-// Sends the error response to a refused head. Formats the refusal, and whether the connection ends.
+// Sends the error response to a refused head. Formats the refusal, and whether the head is the last one.
 fn refused(
     alloc: Global,
     outlet: &mut Outlet<Below>,
@@ -198,8 +198,7 @@ fn parts_of(
 
 const NO_REQUEST: &str = "no such request";
 
-// Returns the index of the request that a step applies to, or `None` if the step is not one of a request read without a
-// driver.
+// Returns the index of the request that a step applies to, or `None` if the step can't be applied to an `Exchange`.
 fn place_in(step: &Step<ScriptData>) -> Option<u64> {
     match step {
         Step::AsReader(number)
@@ -297,9 +296,9 @@ fn call_front(
     add_outcome(alloc, last, (source, outlet), count > deeds.len(), to)
 }
 
-/// Makes calls on requests that are read without a driver. Adds the results of each call, with the number of reads from
-/// the client and what has been flushed by then, and finally what is left in the source and the outlet, and what the
-/// writer accepted.
+/// Makes calls on requests that are read without a `Connection`. Adds the results of each call, with the number of
+/// reads from the client and what has been flushed by then, and finally what is left in the source and the outlet, and
+/// what the writer accepted.
 pub fn call_exchanges(
     alloc: Global,
     profile: Profile,

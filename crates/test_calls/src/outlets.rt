@@ -51,8 +51,8 @@ fn call_outlet(
     }
 }
 
-/// Makes calls on an outlet. Adds their results, what the outlet has buffered after them, whether it has ended, and
-/// what its writer accepted.
+/// Makes calls on an outlet. Adds their results, what the outlet has buffered after them, whether it has ended, what
+/// its writer accepted, and how the writer was called.
 pub fn call_outlets(alloc: Global, input: &Input, to: &mut Vec<Finding>) -> Result<(), AllocError> {
     let mut outlet = Outlet::new(Metered::new(Taker::new(alloc, input)));
     for deed in &input.deeds {
@@ -76,7 +76,8 @@ fn call_stream(
     }
 }
 
-/// Makes calls on a stream. Adds their results, what is left in its reader after them, and what its writer accepted.
+/// Makes calls on a stream. Adds their results, what is left in its reader after them, what its writer accepted, and
+/// how the writer was called.
 pub fn call_streams(
     alloc: Global,
     input: &Input,

@@ -164,7 +164,7 @@ fn add_of_request(
     }
 }
 
-// Adds a part that determines how the data are written.
+// Adds a part that determines how the data is written.
 fn add_of_writing(
     alloc: Global,
     input: &mut Input,

@@ -41,7 +41,7 @@ pub fn given(alloc: Global, bytes: &[u8]) -> Result<Vec<u8>, AllocError> {
     given_line(alloc, bytes)
 }
 
-/// Formats the result of a call without a value.
+/// Formats the result of a call that returns no value.
 pub fn outcome_of(alloc: Global, outcome: io::Result<()>) -> Result<Vec<u8>, AllocError> {
     match outcome {
         Ok(()) => done(alloc),
@@ -49,7 +49,7 @@ pub fn outcome_of(alloc: Global, outcome: io::Result<()>) -> Result<Vec<u8>, All
     }
 }
 
-/// Adds what is left in a reader.
+/// Adds what is left in a reader, as a result of kind `rest`.
 pub fn add_rest<R: ReadDevice>(
     alloc: Global,
     reader: &mut R,
@@ -59,7 +59,7 @@ pub fn add_rest<R: ReadDevice>(
     add(alloc, to, "rest", rest.as_slice())
 }
 
-// Adds the length of each write, with spaces between them.
+// Adds the lengths of the writes, separated by spaces.
 fn add_sizes(alloc: Global, sizes: &[usize], to: &mut Vec<Finding>) -> Result<(), AllocError> {
     let mut text = String::new(alloc);
     for size in sizes {

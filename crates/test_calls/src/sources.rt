@@ -1,4 +1,4 @@
-//! Makes successive calls on sources, on parts of sources, and on fused readers.
+//! Makes successive calls on sources, on parts of sources (each an `EqualReader`), and on fused readers.
 use crate::bodies::drain;
 use crate::deeds::Deed;
 use crate::devices::Client;

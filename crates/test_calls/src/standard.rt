@@ -49,8 +49,8 @@ fn add_if(
     Ok(())
 }
 
-/// Adds each of `host`, `host-value` (the value of a Host field) and `authority` (the target of a `CONNECT`) that the
-/// text is, or `refused` if it is none of them.
+/// Adds `host` if the text is a host, `host-value` if it is a valid value of a Host field, and `authority` if it is a
+/// valid target of a `CONNECT`, or `refused` if it is none of these.
 pub fn validate_host(alloc: Global, text: &[u8], to: &mut Vec<Finding>) -> Result<(), AllocError> {
     add_if(alloc, to, "host", is_host(text))?;
     add_if(alloc, to, "host-value", is_host_value(text))?;

@@ -1,4 +1,4 @@
-//! Makes calls whose input is a text, a number or a version.
+//! Makes calls that parse a text, determine a transfer coding, or format a status, a version or a number.
 use crate::findings::{add, add_shown};
 use crate::row::{Choice, Finding, TextCall};
 use std::alloc::{AllocError, Global};
@@ -14,7 +14,7 @@ fn add_refused(alloc: Global, to: &mut Vec<Finding>) -> Result<(), AllocError> {
     add(alloc, to, "refused", b"")
 }
 
-// Adds that the text was refused. Fails if memory couldn't be allocated instead.
+// Adds that the text was refused, or fails if memory couldn't be allocated.
 fn add_fault(alloc: Global, to: &mut Vec<Finding>, fault: ParseError) -> Result<(), AllocError> {
     match fault {
         ParseError::Refused => add_refused(alloc, to),

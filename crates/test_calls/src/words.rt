@@ -1,4 +1,4 @@
-//! Parses the words of a line: numbers, versions, codings, texts.
+//! Parses the words of a line: numbers, statuses, versions, codings, texts, headers, and bytes of a series.
 use std::alloc::{AllocError, Global};
 use test_data_files::fault::LineFault;
 use test_data_files::text::{number_in, text_of};
@@ -97,7 +97,8 @@ pub fn header(alloc: Global, words: &str) -> Result<Header, LineFault> {
     }
 }
 
-/// Appends bytes of the series 0, 1, .. 250, 0, 1, .. The words are the position of the first byte and the count.
+/// Appends bytes of the series that repeats 0 to 250 endlessly. The words are the position of the first byte in the
+/// series and the number of bytes.
 pub fn add_series(words: &str, to: &mut Vec<u8>) -> Result<(), LineFault> {
     let (from, count) = split(words);
     let (from, count) = (number(from)?, number(count)?);

@@ -78,7 +78,7 @@ pub fn write_chunked(
     add_written(alloc, to, writer, outcome)
 }
 
-// Writes a piece. If `has_flushes`, then flushes and writes an empty piece.
+// Writes a piece, and then, if `has_flushes` is set, flushes and writes an empty piece.
 fn write_piece<W: Write>(writer: &mut W, piece: &[u8], has_flushes: bool) -> io::Result<()> {
     writer.write_all(piece)?;
     if has_flushes {
@@ -125,7 +125,7 @@ pub fn encode(
     add_written(alloc, to, writer, outcome)
 }
 
-// Builds a response with this status code, these data, and the headers, the stated length and the threshold of a row.
+// Builds a response with this status code, this data, and the headers, the stated length and the threshold of a row.
 fn answer<'a, D>(
     alloc: Global,
     status: StatusCode,

@@ -22,8 +22,8 @@ fn lines_of(alloc: Global, replies: &[Reply]) -> Result<Vec<Vec<u8>>, AllocError
     Ok(lines)
 }
 
-// Runs the steps a second time, and returns why no further request comes after them, since the replies don't report
-// that. Returns `None`, and runs nothing, if the case doesn't state it.
+// Returns why no further request comes after the steps, or `open` if one may come. Runs the steps a second time, since
+// their replies don't report this. Returns `None`, and runs nothing, if the case states no end.
 fn end_of(alloc: Global, case: &Case, trial: Trial) -> Result<Option<Vec<u8>>, StepsFault> {
     if case.end.is_none() {
         return Ok(None);

@@ -1,8 +1,13 @@
-//! Runs the cases of files: `test_cases FILE..`. Each case is run with `run_with` and, if none of these runs differs
-//! and no call would have to wait, also with the requests of a connection on one thread: once with responses sent one
-//! by one, and, unless the case limits what its writer accepts, once with responses sent together. Each way is tried as
-//! `test_case_trials` describes, for example with four readers, and with each call to the writer failing. docs/CASES.md
-//! describes the files.
+//! Runs the cases of files: `test_cases FILE..`. Each case is tried in up to three ways:
+//!
+//! - with `run_with`;
+//! - with the requests of a connection on one thread, and responses sent one by one;
+//! - likewise, but with successive responses sent together.
+//!
+//! The second and the third way skip a case that differs in the first way, or in which a call would have to wait. The
+//! third way also skips a case that limits what its writer accepts. In each way, a case is run as `test_case_trials`
+//! describes, for example with four readers, and with each call to the writer failing. docs/CASES.md describes the
+//! files.
 #![tactic(auto)]
 
 mod by_requests;

@@ -227,8 +227,8 @@ fn number_in(step: &Step<ScriptData>) -> Option<u64> {
 }
 
 /// Makes the call that a step names, and formats its result. The case's reply, `wanted`, states under which number to
-/// hold the next request. If `wanted` is `nosuch`, only an `ask` is made, since no call fits any other step: for
-/// example, a read of a body whose client waits for a 100 first.
+/// hold the next request. If `wanted` is `nosuch`, makes no call unless the step is an `ask`, since no call corresponds
+/// to the step. An example is a read of a body whose client is still waiting for a 100, which `as_reader` would send.
 pub(crate) fn treat<R: Wait + Copy>(
     alloc: Global,
     holding: &mut Holding<R>,

@@ -147,8 +147,8 @@ fn comes_true<R: Host>(rt: &R, is_so: &AtomicBool, millis: u64) -> bool {
     is_so.load(Ordering::SeqCst)
 }
 
-/// Waits until the thread or job called `name` ends, and returns its failure, if any. Fails if there is none of this
-/// name, or if the wait takes more than `millis` milliseconds.
+/// Waits until the thread or job called `name` ends, and returns its failure, if any. Fails if no thread or job has
+/// this name, or if the wait takes more than `millis` milliseconds.
 pub(crate) fn end<R: Host>(
     rt: &R,
     alloc: Global,
@@ -169,8 +169,8 @@ pub(crate) fn end<R: Host>(
     Ok(join(rt, stage, beside))
 }
 
-/// Expects that the thread or job called `name` has not ended after `WATCHED` milliseconds. Fails if there is none of
-/// this name.
+/// Expects that the thread or job called `name` has not ended after `WATCHED` milliseconds. Fails if no thread or job
+/// has this name.
 pub(crate) fn wait<R: Host>(
     rt: &R,
     alloc: Global,

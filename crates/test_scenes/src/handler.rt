@@ -108,12 +108,20 @@ fn write_long<R: Wait + Clock + Drop>(
 }
 
 impl<R: Wait + Clock + Drop> Handler<R, ServerRequest<R>> for ByPath<R> {
-    /// Keeps the request if its target is `/keep` or `keeps_all` is set. Otherwise drops it for `/drop` and
-    /// `/drop-err`, responds with the request's body for `/echo`, in two pieces for `/grow`, with `LONG` bytes for
-    /// `/long`, with three of ten stated bytes for `/short`, and upgrades it for `/greet`. Responds to any other
-    /// request with its target as the body: for `/wait` after `wait_at`, and for `/close` with a response that closes
-    /// the connection. Returns an error for `/err`, once it has responded, and for `/drop-err`. Also returns an error
-    /// if reading or responding fails, or if memory can't be allocated.
+    /// Keeps the request if `keeps_all` is set. Otherwise acts according to the request's target:
+    ///
+    /// - `/keep`: keeps the request.
+    /// - `/drop` and `/drop-err`: drops it.
+    /// - `/echo`: responds with its body.
+    /// - `/grow`: responds in two pieces, the second after `wait_at`.
+    /// - `/long`: responds with `LONG` bytes.
+    /// - `/short`: responds with three bytes, and states a length of ten.
+    /// - `/greet`: upgrades it.
+    /// - Any other target: responds with the target as the body, for `/wait` after `wait_at`, and for `/close` with a
+    ///   response that closes the connection.
+    ///
+    /// Returns an error for `/err`, once it has responded, and for `/drop-err`. Also returns an error if reading or
+    /// responding fails, or if memory can't be allocated.
     fn handle(&self, rt: &R, alloc: Global, request: ServerRequest<R>) -> io::Result<()> {
         let path = request.url();
         if self.keeps_all.load(Ordering::SeqCst) || path == "/keep" {

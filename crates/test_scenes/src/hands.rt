@@ -65,8 +65,8 @@ impl<R: Net + SocketFiles + Wait + Clock + Drop> Hands<R> {
         }
     }
 
-    /// Takes out what `lines` need: the requests, outputs and props that they name. Adds copies of the handles to the
-    /// handler and, if the lines name it, to the server, and a copy of the server's address.
+    /// Takes out what `lines` need: the requests, outputs and props that they name. The result also has a handle to the
+    /// handler, a copy of the server's address and, if the lines name the server, a handle to it.
     pub(crate) fn part(&mut self, alloc: Global, lines: &[Line]) -> Result<Hands<R>, AllocError> {
         let props = self.props.part(alloc, lines)?;
         let handler = Arc::try_clone(&self.handler)?;

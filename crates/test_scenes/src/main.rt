@@ -1,6 +1,6 @@
 //! Plays the scenes of files: `test_scenes FILE..`. A scene lists step by step what a server and its clients do and
-//! what each of them observes. Several scenes run in parallel, except those that must run alone. docs/CASES.md
-//! describes the files.
+//! what each of them observes. Some scenes use something else instead of a server, such as a queue. Several scenes run
+//! in parallel, except those that must run alone. docs/CASES.md describes the files.
 #![tactic(auto)]
 
 mod besides;
@@ -75,8 +75,8 @@ fn report<O: Write>(
     writeln!(out, "{file}:{number}: {name}: {line}:{mishap}")
 }
 
-// Plays scenes in parallel, and reports those that fail. Returns how many had the wrong outcome: scenes that failed,
-// except those that must fail, and scenes that succeeded although they must fail.
+// Plays scenes in parallel, and reports those that fail. Returns how many had the wrong outcome: scenes that failed but
+// should have succeeded, and scenes that succeeded but should have failed.
 fn play_group<R: Host, O: Write>(
     rt: &R,
     alloc: Global,
@@ -104,8 +104,8 @@ fn play_group<R: Host, O: Write>(
     Ok(failed)
 }
 
-// Plays the scenes of a file. Prints one line for each that fails, and one with the number of scenes and the number of
-// those that had the wrong outcome. Returns whether none had.
+// Plays the scenes of a file. Reports those that fail, and then prints a line with the number of scenes and the number
+// of those that had the wrong outcome. Returns whether none had.
 fn play_file<R: Host, O: Write>(
     rt: &R,
     alloc: Global,

@@ -28,7 +28,7 @@ pub(crate) struct Stage<R: Net + SocketFiles + Wait + Clock + Drop> {
     serving: Option<JoinHandle<bool>>,
 }
 
-// Runs a step on the request called `name`, which came over memory or from the server.
+// Runs a step on the request called `name`, which is over memory or was received by the server.
 fn act_request<R: Host>(
     rt: &R,
     alloc: Global,
@@ -45,7 +45,7 @@ fn act_request<R: Host>(
     act_asked(rt, alloc, &mut hands.served, name, deed)
 }
 
-// Runs a step on the output called `name`, which belongs to a request over memory or from the server.
+// Runs a step on the output called `name`. Its request is over memory or was received by the server.
 fn act_output<R: Host>(
     alloc: Global,
     hands: &mut Hands<R>,
@@ -239,7 +239,7 @@ fn play_once<R: Host>(
     }
 }
 
-/// Plays a scene as often as it asks for, each time with `recv_timeout` and, if it asks for both ways, also with a
+/// Plays a scene as many times as it asks for, each time with `recv_timeout` and, if it asks for both ways, also with a
 /// handler, until it fails. Returns the failure, if any. A scene over `unix` binds its socket at `path`.
 pub(crate) fn play<R: Host>(rt: &R, alloc: Global, scene: &Scene, path: &str) -> Option<Failure> {
     let ground = scene.ground;

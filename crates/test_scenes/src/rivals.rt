@@ -200,8 +200,8 @@ fn demand_no_tls<R: Host>(
     demand(alloc, "there is no file", !is_there)
 }
 
-// Expects that a server created from two addresses, `addr`, which is in use, and one with any free port, does not
-// listen on the first.
+// Creates a server from two addresses: `addr`, which is in use, and one with any free port. Expects that the server
+// does not listen on the first.
 fn demand_second<R: Host>(rt: &R, alloc: Global, addr: &ListenAddr) -> Result<(), Mishap> {
     let ListenAddr::IP(first) = addr else {
         return Err(Mishap::Unplayable("only TCP has two addresses"));

@@ -28,7 +28,7 @@ use tiny_http::{Limits, Profile};
 // Time in seconds within which an expected request must arrive.
 const LONGEST: u64 = 10;
 
-// Maximum number of checks, a millisecond apart, for something expected.
+// Maximum number of checks for an expected request or state, made a millisecond apart.
 const TURNS: u32 = 10_000;
 
 // Maximum number of descriptors taken. By default the system allows a process no more than this.
@@ -37,7 +37,7 @@ const MOST_DESCRIPTORS: u32 = 1_048_576;
 // Initial capacity of the queue of kept requests.
 const KEPT_ROOM: usize = 8;
 
-/// The address on which a scene's server listens: a TCP address, or the path of a Unix socket.
+/// An address for a server to listen on: a TCP address, or the path of a Unix socket.
 #[derive(Clone, Copy)]
 pub(crate) enum Place<'a> {
     Tcp(&'static str),

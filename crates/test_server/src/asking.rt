@@ -12,7 +12,7 @@ use tiny_http::device::{WriteDevice, put};
 use tiny_http::refined_tcp_stream::RefinedTcpStream;
 use tiny_http_socket::cork::Cork;
 
-// Number of rounds, in each of which both threads begin at once.
+// Number of rounds. Both threads start each round at the same time.
 const ROUNDS: usize = 1_000;
 
 // Length in bytes of the piece that is written after the first byte of a round.

@@ -1,4 +1,4 @@
-//! Tests of bodies whose reader is interrupted.
+//! Test of a body whose reader is interrupted.
 use crate::memory_fixture::{client, connect_to, next, now};
 use std::io::{ErrorKind, Read};
 use std::test::Fail;

@@ -74,7 +74,7 @@ fn what_is_written_waits(rt: HostRuntime) {
 struct Calls(u32);
 
 impl BeforeRead for Calls {
-    // The tests assert the number of calls.
+    // Contracts state nothing about the calls: a test asserts their number.
     ghost does = { λ _ _. ⊤ };
 
     fn before_read(&mut self) {

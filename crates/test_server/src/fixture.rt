@@ -11,7 +11,7 @@ use std::time::{Clock, Duration};
 use tiny_http::response::Response;
 use tiny_http::server::{Server, ServerRequest, ServerRuntime, current_date};
 
-// Maximum number of reads of 1 ms each before reading fails with a timeout.
+/// Maximum number of reads of 1 ms each before reading fails with a timeout.
 pub const TURNS: u32 = 10_000;
 
 /// The `Server` and `Date` field lines of a response, without the value of `Date`.

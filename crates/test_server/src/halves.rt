@@ -87,8 +87,9 @@ fn assert_broken(rt: &impl Abort, written: io::Result<usize>) {
     assert_same(rt, fault.kind(), ErrorKind::BrokenPipe);
 }
 
-// Asserts that a connection over a Unix socket doesn't use TLS and has no peer address, that it can be read after its
-// writing half is dropped, and that it is closed once both halves are dropped.
+// Asserts that a connection over a Unix socket doesn't use TLS and has no peer address. Also asserts that once its
+// writing half is dropped, the peer reads the end of input but the connection can still be read, and that the
+// connection is closed once both halves are dropped.
 fn assert_halves_close_alone<R: Net + Abort>(rt: &R, alloc: Global) {
     let (ours, mut theirs) = UnixStream::pair(rt).expect(rt, "a pair");
     let (mut reader, mut writer) = halves_of(rt, alloc, ours);
@@ -144,8 +145,8 @@ fn handle_of(rt: &impl Abort, stream: &TcpStream) -> TcpStream {
     handle
 }
 
-// Asserts that the peer of a TCP connection reads the end once the writing half is dropped, and that the connection can
-// still be read then, but not once both halves are dropped.
+// Asserts that the peer of a TCP connection reads the end of input once the writing half is dropped, and that the
+// connection can still be read then, but not once both halves are dropped.
 fn assert_halves_of_tcp<R: Host>(rt: &R, alloc: Global) {
     let (ours, mut theirs) = tcp_pair(rt);
     let mut handle = handle_of(rt, &ours);

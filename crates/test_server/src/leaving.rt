@@ -1,4 +1,5 @@
-//! Tests of when the responses of a connection are sent, over a socket pair whose other end the test reads.
+//! Tests of when the responses of a connection are sent, and of `write_both`, over a socket pair whose other end the
+//! test reads.
 use crate::fixture::{DATED, Host, assert_reads_next, send, text};
 use crate::same::assert_same;
 use std::alloc::Global;
@@ -16,10 +17,10 @@ use tiny_http::response::Response;
 use tiny_http::server::current_date;
 use tiny_http_socket::cork::{Cork, CorkedWriter, FlushingReader, halves};
 
-// The reader of a connection whose responses are sent together.
+/// The reader of a connection whose responses are sent together.
 pub type HalfReader = FlushingReader<RefinedTcpStream, RefinedTcpStream>;
 
-// The writer of a connection whose responses are sent together.
+/// The writer of a connection whose responses are sent together.
 pub type HalfWriter<R> = CorkedWriter<RefinedTcpStream, R>;
 
 // A connection whose responses are sent together, and its client.
@@ -30,7 +31,7 @@ struct Pair<R: Wait + Drop> {
     client: ClientConnection<HalfReader, HalfWriter<R>, R>,
 }
 
-// The two halves of a connection whose responses are sent together, and its client.
+/// The two halves of a connection whose responses are sent together, and its client.
 #[derive(Drop)]
 pub struct Ends<R: Wait + Drop> {
     pub peer: UnixStream,
@@ -39,7 +40,7 @@ pub struct Ends<R: Wait + Drop> {
     pub writer: HalfWriter<R>,
 }
 
-// Creates the halves of a connection, and its client, which has this read timeout.
+/// Creates the halves of a connection, and its client, which has this read timeout.
 pub fn ends_of<R: Host>(rt: &R, alloc: Global, wait: Duration) -> Ends<R> {
     let (ours, peer) = UnixStream::pair(rt).expect(rt, "a pair");
     let timed = peer.set_read_timeout(Some(wait));

@@ -1,6 +1,6 @@
 //! Tests of cases that scenes can't reach: requests over memory whose reader is interrupted or that many threads
-//! answer, the times at which a connection's responses are sent, halves of connections and listeners, buffered readers
-//! and writers, queues and counters shared by threads, and dates from a fixed clock.
+//! answer, the times at which a connection's responses are sent, listeners and the halves of connections, buffered
+//! readers and writers, queues and counters shared by threads, and dates from a fixed clock.
 #![tactic(auto)]
 
 #[cfg(test)]

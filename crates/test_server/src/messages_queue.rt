@@ -1,4 +1,4 @@
-//! Tests of a queue shared by threads.
+//! Tests of a queue shared by threads, and of what a queue refuses if memory can't be allocated.
 use crate::same::{assert_holds, assert_same};
 use std::alloc::Global;
 use std::process::Abort;
@@ -99,7 +99,8 @@ fn shared<T>(rt: &impl Abort, value: &Arc<T>) -> Arc<T> {
     Arc::try_clone(value).expect(rt, "memory")
 }
 
-// Maximum number of rounds that wait for a value or a mark; also the reply to a mark.
+// Maximum number of rounds, each of which adds a value or a mark and waits for the reply. Also the reply to a mark,
+// since no round has this number.
 const ROUNDS: u16 = 2_000;
 
 // The value that ends the rounds.
@@ -270,7 +271,7 @@ fn start_poppers<R: Host>(
     popping
 }
 
-// Pushes all values on eight threads, and then a mark for each popping thread.
+// Pushes all values on eight threads, and asserts that none is refused. Then adds a mark for each popping thread.
 fn push_by_eight<R: Host>(rt: &R, alloc: Global, queue: &Arc<MessagesQueue<Numbered>>) {
     for pusher in start_pushers(rt, alloc, queue) {
         assert_same(rt, pusher.join(rt), 0);

@@ -28,7 +28,8 @@ struct Dealt<R: Wait + Clock + Copy> {
 // The requests of a thread.
 type Share<R> = Vec<Dealt<R>>;
 
-// Of every four requests, drops the first, writes raw bytes for the second, and responds to the other two.
+// Handles a request according to its number: of every four requests, drops the first, writes raw bytes for the second,
+// and responds to the other two.
 fn treat<R: Wait + Clock + Copy>(
     alloc: Global,
     date: HttpDate,

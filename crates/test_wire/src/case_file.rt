@@ -1,4 +1,4 @@
-//! Tests of the reader of case files, and of the reports of runs that differ.
+//! Tests of the reader of case files, of the readers and writers of trials, and of the reports of runs that differ.
 use crate::same::assert_same;
 use std::alloc::Global;
 use std::io::{ErrorKind, Write};
@@ -223,8 +223,8 @@ const DIFFERENCES: &[(Found, bool, &str)] = &[
         false,
         "failures: 1, 0",
     ),
-    // After an injected failure a prefix of the output is enough. Only the reply to a response, a write or a flush may
-    // report the failure.
+    // After an injected failure a prefix of the output is enough. Only the reply to a step that responds, writes or
+    // flushes may report the failure.
     (
         Found {
             failures: 1,

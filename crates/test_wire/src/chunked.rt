@@ -6,7 +6,7 @@ use std::test::Fail;
 use tiny_http_wire::chunked::{Decoder, Decoding};
 use tiny_http_wire::device::{Canned, ReadDevice, Stop};
 
-// Reads into four bytes. Asserts the bytes that were read, and how the decoding has stopped by then, if it has.
+// Reads up to four bytes. Asserts the bytes that were read, and how the decoding has stopped by then, if it has.
 fn assert_step(
     rt: &impl Abort,
     decoding: &mut Decoding,
@@ -38,7 +38,7 @@ fn a_decoding_apart_from_its_reader(rt: HostRuntime) -> Result<(), Fail> {
     Ok(())
 }
 
-// Reads into four bytes through std's `Read`, and asserts the bytes that were read.
+// Reads up to four bytes through std's `Read`, and asserts the bytes that were read.
 fn assert_read(rt: &impl Abort, decoder: &mut Decoder<Canned>, wanted: &[u8]) -> Result<(), Fail> {
     let mut buf = [0u8; 4];
     let n = Read::read(decoder, &mut buf)?;

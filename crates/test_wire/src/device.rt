@@ -17,7 +17,7 @@ fn read<'a, R: ReadDevice>(reader: &mut R, buf: &'a mut [u8]) -> Result<&'a [u8]
     }
 }
 
-// Asserts the results of the next three reads into four bytes.
+// Asserts the results of the next three reads, each of up to four bytes.
 fn reads<R: ReadDevice>(rt: &impl Abort, reader: &mut R, wanted: [Result<&[u8], ErrorKind>; 3]) {
     let mut buf = [0u8; 4];
     for want in wanted {
@@ -76,7 +76,8 @@ fn write_twice(writer: &mut FailsAt<Slow>) -> [Result<usize, ErrorKind>; 3] {
     ]
 }
 
-// A flush that `FailsAt` does not fail reaches the inner stream, whose flushes fail with another kind of error.
+// If `FailsAt` injects no fault into a flush, the flush reaches the inner stream, whose flushes fail with another kind
+// of error.
 #[test]
 fn a_writer_fails_once(rt: HostRuntime) {
     let late = Err(ErrorKind::TimedOut);
@@ -155,7 +156,7 @@ fn a_front_is_read_alone(rt: HostRuntime) -> Result<(), Fail> {
     Ok(())
 }
 
-// Asserts that a budget accepts these bytes without an error.
+// Asserts that a budget accepts `hello`, an empty list of pieces, and a flush, all without an error.
 fn assert_taken(rt: &impl Abort, budget: &mut Budget) -> Result<(), Fail> {
     put(budget, b"hello")?;
     put_all(budget, &[])?;
@@ -164,7 +165,7 @@ fn assert_taken(rt: &impl Abort, budget: &mut Budget) -> Result<(), Fail> {
     Ok(())
 }
 
-// Asserts that a budget without room for these writes fails, and has then failed `count` times.
+// Asserts that writing more than a budget has room for fails, and that `count` writes have failed by then.
 fn assert_failing(rt: &impl Abort, mut budget: &mut Budget, count: u64) {
     let fault = kind_of(put_all(&mut budget, &[b" ", b"world"]));
     let found = (fault, WriteDevice::failures(&budget));

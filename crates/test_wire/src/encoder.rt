@@ -10,7 +10,7 @@ use tiny_http_wire::encoder::Encoder;
 
 const ROOM: usize = 100_000;
 
-// Creates `count` bytes, each different from its neighbours.
+// Creates `count` bytes, each different from its neighbors.
 fn data(alloc: Global, count: usize) -> Result<Vec<u8>, Fail> {
     let mut bytes = Vec::new(alloc);
     for place in 0..count {

@@ -107,7 +107,7 @@ fn assert_printed<R: ReadDevice + Drop>(
     Ok(())
 }
 
-// Returns how often printing a response flushes the writer.
+// Returns how many times printing a response flushes the writer.
 fn flushes<R: ReadDevice + Drop>(
     alloc: Global,
     answer: Response<R>,

@@ -1,4 +1,4 @@
-//! Tests of the output of `example_greeter`, read as a client reads it.
+//! Tests of the output of `example_greeter`, read as a client reads it, and of how an `AnswerFault` is displayed.
 use crate::same::assert_same;
 use example_greeter::serve_bytes;
 use httpdate::HttpDate;

@@ -224,7 +224,8 @@ impl<J: Job + Drop> Sharing<J> {
         unreachable!()
     }
 
-    // Waits to be woken, for at most 5000 ms if more than `MIN_THREADS` workers run. Returns whether that time is over.
+    // Waits to be woken, for at most 5000 ms if more than `MIN_THREADS` workers run. Returns the lock's guard, and
+    // whether that time has run out.
     fn wait<'a, R: Wait + Clock>(
         &self,
         rt: &R,
@@ -313,7 +314,7 @@ impl<J: Job + Drop + Send + 'static, R: Threads + Wait + Clock + Copy + Send + '
     }
 
     // Starts a worker with a job. If no thread can be created, `thread::spawn` hands back the closure, which holds the
-    // job: called with the mark set, it returns the job instead of running it.
+    // job. Called with `is_refused` set, the closure returns the job instead of running it.
     fn start(&self, rt: R, alloc: Global, job: J) -> Result<(), J>
         ensures { IfErr result (λ back. back ≡ job) }
     {

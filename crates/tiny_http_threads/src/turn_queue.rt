@@ -70,9 +70,9 @@ impl<T> Model for TurnQueueState<T> {
     }) };
 }
 
-// Lists a number as waiting, and returns the condition that wakes its thread. No clause states that the returned
-// condition is the listed one, since to contracts all conditions are equal. Fails if memory can't be allocated, and
-// then changes nothing.
+// Lists a number as waiting, and returns the condition variable that wakes its thread. No clause states that the
+// returned condition variable is the listed one, since to contracts all of them are equal. Fails if memory can't be
+// allocated, and then changes nothing.
 fn list_waiter(
     waiters: &mut BTreeMap<u64, Arc<Condvar>>,
     alloc: Global,
@@ -194,8 +194,8 @@ impl<T: Drop> TurnQueueState<T> {
         self.wants_room = true;
     }
 
-    // Returns whether a thread waits until a number is finished, and clears that mark: the caller must then wake the
-    // thread.
+    // Returns whether a thread waits until a number is finished, and clears that flag. If one waits, the caller must
+    // wake it.
     fn gives_room(&mut self) -> bool
         ensures wanted { result ≡ self.old.wants_room }
         ensures room { self.new ≡ record self.old { wants_room = false } }
@@ -273,19 +273,20 @@ fn share<T: Drop>(
     Ok(Arc::new(alloc, queue)?)
 }
 
-/// An item that threads use one at a time, in the order of the numbers issued to them. A text may be left for a number:
-/// the thread that holds the item when the turn of that number comes writes the text. The item and the texts are moved
-/// out, so no I/O is done under the lock.
+/// An item that threads use one at a time, in the order of the numbers issued to them. A text may be left for a number;
+/// whichever thread holds the item when that number's turn comes writes the text. The item and the texts are moved out
+/// of the locked state, so no I/O is done under the lock.
 #[derive(Drop)]
 pub(crate) struct TurnQueue<T> {
     state: Mutex<TurnQueueState<T>>,
     // The condition on which a thread waits until a number is finished.
     finished: Condvar,
-    // Whether the queue was closed. `Place::is_last` reads it before it takes the lock, so it may be set without.
+    // Whether the queue was closed. The flag may be set without the lock, since `Place::is_last` reads it before it
+    // takes the lock.
     is_closed: Arc<AtomicBool>,
     // Whether the queue closes when its item breaks.
     closes_when_broken: AtomicBool,
-    // Whether `break_queue` closed the queue: its item has failed or was ended, and what is done with it from then on
+    // Whether `break_queue` closed the queue: its item has failed or was ended, and anything written to it from then on
     // is lost.
     is_broken: AtomicBool,
 }
@@ -347,8 +348,8 @@ impl<T: Drop> TurnQueue<T> {
         self.closes_when_broken.store(true, Ordering::SeqCst);
     }
 
-    /// Leaves a text for a number; it is written in the turn of the number. If that turn has come, holds the number
-    /// instead, and returns the item and the text. Doesn't wait for any turn.
+    /// Leaves a text for an open number, to be written in that number's turn. If the turn has come, holds the number
+    /// instead, and returns the item and the text. If the number isn't open, drops the text. Doesn't wait for any turn.
     pub fn leave<R: Wait>(&self, rt: &R, number: u64, text: Vec<u8>) -> Option<(Box<T>, Vec<u8>)>
         ensures { IfSome result (λ held. held.1 ≡ text) }
     {
@@ -360,7 +361,8 @@ impl<T: Drop> TurnQueue<T> {
     }
 
     /// Finishes a held number. If a text was left for the next number, that number is now held, and the same item and
-    /// the text are returned. Otherwise wakes the thread that waits for the next turn, if there is one.
+    /// the text are returned. Otherwise wakes the thread that waits for the next turn, if there is one. In either case
+    /// also wakes a thread that waits in `wait_for_room`. If the number isn't held, drops the item.
     pub fn finish<R: Wait>(&self, rt: &R, number: u64, item: Box<T>) -> Option<(Box<T>, Vec<u8>)>
         ensures { IfSome result (λ next. next.0 ≡ item) }
     {
@@ -500,7 +502,7 @@ impl<T: Drop, R: Wait + Drop> Turn<T, R> {
         unreachable!()
     }
 
-    /// Holds the number if its turn has come, without a wait. Returns whether it is held.
+    /// Holds the number if its turn has come, without waiting. Returns whether it is held.
     pub fn try_hold(&mut self) -> bool {
         if self.item.is_some() {
             return true;

@@ -86,7 +86,7 @@ impl<T: Drop> Turns<T> {
     ghost use Rattle.tiny_http_turns.specs.Turns.{IsInOrder};
     ghost use Rattle.tiny_http_turns.specs.TurnsCalls.{new_turns, TakesTurn, PutsBack, Finishes, LeavesTurn, GivesBack};
 
-    /// Stores the item. No number has been issued yet.
+    /// Creates a `Turns` that stores this item. No number has been issued yet.
     pub fn new(alloc: Global, item: T) -> Turns<T>
         ensures in_order { IsInOrder result }
         ensures new { result ≡ new_turns item }

@@ -18,7 +18,7 @@ pub enum Slot<T> {
     Free,
     /// The connection waits for an event, at most until this time. The table holds its item.
     Waiting(T, Duration),
-    /// The connection is served. The flag is whether an event has come since its item was handed out.
+    /// The connection is served. The flag says whether an event has arrived since its item was handed out.
     Served(bool),
 }
 
@@ -143,7 +143,7 @@ impl<T: Drop> WaitTable<T> {
     }
 
     /// Makes a served connection wait for an event, at most until this time of a monotonic clock, and stores its item.
-    /// Returns the item if an event has come since it was handed out; the connection is then still served, and the
+    /// Returns the item if an event has arrived since it was handed out; the connection is then still served, and the
     /// event is no longer kept. Returns the item and changes nothing if no served connection has this token.
     pub fn wait(&mut self, token: usize, item: T, until: Duration) -> Option<T>
         ensures slots { (result, self.new.slots)
@@ -193,7 +193,7 @@ impl<T: Drop> WaitTable<T> {
         Some((token, item))
     }
 
-    /// Returns how long the caller may wait for events at `now` before it calls `take_late`: no wait is over sooner.
+    /// Returns how long, from `now`, the caller may wait for events before it calls `take_late`: no wait ends sooner.
     /// Returns `None` only if no connection waits.
     pub fn time_left(&self, now: Duration) -> Option<Duration>
         ensures earliest { option_map as_nanos result ≡ nanos_left (as_nanos now) self.now.earliest }

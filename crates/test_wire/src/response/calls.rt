@@ -1,5 +1,5 @@
-//! Tests of how often printing a response calls the reader of its data and the writer, since each call may be a system
-//! call.
+//! Tests of how many times printing a response calls the reader of its data and the writer, since each call may be a
+//! system call.
 use crate::same::assert_same;
 use httpdate::HttpDate;
 use std::alloc::Global;
@@ -67,14 +67,14 @@ fn calls_of(alloc: Global, minor: u8, length: Option<usize>) -> Result<(u64, u64
     Ok((data.calls, writes))
 }
 
-// A head of up to 512 bytes is one write. The data pass through a buffer of 8192 bytes.
+// A head of up to 512 bytes is one write. The data passes through a buffer of 8192 bytes.
 #[test]
 fn data_of_known_length_are_sent_in_large_pieces(rt: HostRuntime) -> Result<(), Fail> {
     assert_same(&rt, calls_of(rt.alloc(), 1, Some(20_000))?, (3, 4));
     Ok(())
 }
 
-// For HTTP/1.0, data of unknown length are collected up to their end: three reads return pieces, and one finds the end.
+// For HTTP/1.0, data of unknown length is collected up to its end: three reads return pieces, and one finds the end.
 #[test]
 fn gathered_data_are_read_in_large_pieces(rt: HostRuntime) -> Result<(), Fail> {
     let (reads, _) = calls_of(rt.alloc(), 0, None)?;
