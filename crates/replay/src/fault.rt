@@ -18,8 +18,8 @@ pub(crate) enum ReplayFault<'a> {
 impl ReplayFault<'_> {
     ghost use Rattle.replay.specs.ReplayFault.{exit_status};
 
-    /// Returns the exit status of this error: 2 if the arguments, a file or the script can't be used, 1 if memory is
-    /// refused or writing fails.
+    /// Returns the exit status of this error: 2 if the arguments, a file or the script can't be used, 1 if memory can't
+    /// be allocated or writing fails.
     pub(crate) fn status(&self) -> u8
         ensures value { result ≡ exit_status self.now }
         ensures some { 0 < result }

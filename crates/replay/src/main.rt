@@ -40,8 +40,8 @@ struct Replayed {
     replies: Vec<Reply>,
 }
 
-// Runs the steps over a client that sends these bytes and ends. The writer is in memory, so it fails only if memory is
-// refused.
+// Runs the steps over a client that sends these bytes and ends. The writer is in memory, so it fails only if memory
+// can't be allocated.
 fn run_steps(
     alloc: Global,
     profile: Profile,

@@ -80,7 +80,7 @@ fn bytes_are_printed_in_hexadecimal(rt: HostRuntime) -> Result<(), Fail> {
     Ok(())
 }
 
-// Tries scripts without a step, and a script with several kinds of replies.
+// Tries scripts without a step, a script with several kinds of replies, and a script with output.
 #[test]
 fn replies_are_written(rt: HostRuntime) -> Result<(), Fail> {
     let two = "GET /a HTTP/1.1\r\n\r\nPOST /b HTTP/1.1\r\nContent-Length: 5\r\n\r\nhello";

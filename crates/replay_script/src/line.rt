@@ -17,23 +17,23 @@ pub enum ScriptLine<'a> {
     Now(HttpDate),
     /// Asks for the next request.
     Ask,
-    /// Sends the 100 that is owed to the request of this number.
+    /// Sends the 100 that is owed to the request with this number.
     AsReader(u64),
-    /// Reads at most this many bytes of the body of the request of this number, or of the stream of its upgrade.
+    /// Reads at most this many bytes from the body of the request with this number, or from its upgraded stream.
     Read(u64, u16),
-    /// Responds to the request of this number with this status code and content.
+    /// Responds to the request with this number, using this status code and content.
     Respond(u64, u16, Content<'a>),
-    /// Takes the raw writer of the request of this number.
+    /// Takes the raw writer of the request with this number.
     Writer(u64),
-    /// Writes this text through the raw writer of this number, or to the stream of its upgrade.
+    /// Writes this text through the raw writer of the request with this number, or to its upgraded stream.
     Write(u64, &'a str),
-    /// Sends what was written under this number.
+    /// Sends what was written for the request with this number.
     Flush(u64),
-    /// Upgrades the connection of this number's request to this protocol, with this status code.
+    /// Upgrades the connection of the request with this number, using this status code, to this protocol.
     Upgrade(u64, u16, &'a str),
-    /// Ends the raw writer of this number, or the stream of its upgrade.
+    /// Ends the raw writer of the request with this number, or its upgraded stream.
     Finish(u64),
-    /// Drops the request of this number.
+    /// Drops the request with this number.
     Drop(u64),
 }
 

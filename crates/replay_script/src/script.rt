@@ -45,7 +45,7 @@ fn split_lines(alloc: Global, script: &[u8]) -> Result<Vec<&[u8]>, AllocError>
     script.split(|b| *b == b'\n').collect(alloc)
 }
 
-// Parses the lines. Fails at the first line that isn't in the grammar, or if memory is refused.
+// Parses the lines. Fails at the first line that isn't in the grammar, or if memory can't be allocated.
 fn read_lines<'a>(alloc: Global, lines: &[&'a [u8]]) -> Result<Vec<ScriptLine<'a>>, ScriptFault>
     ensures says { IfOk result (λ said. AllZip IsLine (map (λ line. line.now) lines.now) said.items) }
     ensures bad { (n : ℕ) → result ≡ Err (ScriptFault.BadLine n)
@@ -77,8 +77,8 @@ fn text_response(
     Ok(response.with_data(data, Some(text.len())))
 }
 
-// Returns a response with this status code and, as its data, `count` bytes of `x` that end with this stop. `length` is
-// the stated length, if it is known.
+// Returns a response with this status code whose data is `count` bytes `b'x'`, then this stop. `length` is the stated
+// length, if there is one.
 fn xs_response(
     alloc: Global,
     status: StatusCode,
@@ -110,8 +110,8 @@ fn response_with(
     }
 }
 
-/// Returns the step that a line names, if it names one. Fails if memory is refused for a response, a protocol or the
-/// bytes of a `write`.
+/// Returns the step that a line names, if it names one. Fails if memory can't be allocated for a response, a protocol
+/// or the bytes of a `write`.
 pub fn step_in(alloc: Global, line: &ScriptLine<'_>) -> Result<Option<Step<ScriptData>>, AllocError>
     ensures { IfOk result (λ step. option_map step_value step ≡ said_step line.now) }
 {
@@ -184,7 +184,7 @@ fn read_steps(
 }
 
 /// Returns the steps that a script names, each with its date. Fails with `BadLine` at the first line that isn't in the
-/// grammar, and with `OutOfMemory` if memory is refused.
+/// grammar, and with `OutOfMemory` if memory can't be allocated.
 pub fn read_script(alloc: Global, script: &[u8]) -> Result<Vec<Timed<ScriptData>>, ScriptFault>
     ensures steps { IfOk result (λ steps. IsScript script.now (map timed_value steps.items)) }
     ensures bad { (n : ℕ) → result ≡ Err (ScriptFault.BadLine n) → IsFirstBadLine (script_lines script.now) n }

@@ -1,4 +1,4 @@
-//! A case: the input of a connection, and the expected output.
+//! A case: the input of a connection, the steps with their expected replies, and the expected output.
 use std::io::ErrorKind;
 use tiny_http_core::framing::Profile;
 use tiny_http_wire::ascii::AsciiString;
@@ -98,9 +98,9 @@ pub struct Case {
     pub stop: Option<ErrorKind>,
     /// How many bytes the writer accepts before it fails, or `None` if it accepts everything.
     pub room: Option<Room>,
-    /// Whether the case is tried neither with the client's bytes cut short nor with a reader that fails once.
+    /// Whether the case is excluded from the trials in which the client's bytes are cut short or the reader fails once.
     pub is_uncut: bool,
-    /// Number of the client's first bytes that are replaced with every value in turn.
+    /// How many of the client's leading bytes are each replaced with every value in turn, if any.
     pub varied: Option<usize>,
     pub steps: Vec<CaseStep>,
     /// The bytes that are sent, and then those still buffered.

@@ -85,7 +85,7 @@ impl Trier {
 
 impl Write for Trier {
     /// Accepts as many bytes as fit into the room. Fails if none fits and `buf` is not empty, if this call must fail,
-    /// or if memory is refused.
+    /// or if memory can't be allocated.
     fn write(&mut self, buf: &[u8]) -> io::Result<usize> {
         self.call()?;
         let n = buf.len().min(self.room);

@@ -244,8 +244,8 @@ pub fn cut_difference(
 }
 
 /// Returns the first difference between the requests of a trial, whose client sent the bytes `client`, and those that
-/// the independent reader `test_plain_reading` finds in these bytes under the case's profile. It has no reading for
-/// `Strict`, and no case under that profile has its bytes changed.
+/// the independent reader `test_plain_reading` finds in these bytes under the case's profile. That reader doesn't cover
+/// `Strict`, and no case under `Strict` has its bytes changed.
 pub fn plain_difference(
     alloc: Global,
     case: &Case,

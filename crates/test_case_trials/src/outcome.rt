@@ -12,7 +12,7 @@ pub struct Outcome {
     pub output: Vec<u8>,
     /// Whether a call to the writer failed.
     pub has_failed: bool,
-    /// Number of failed calls to the writer, as the `Metered` around it counts them, or, if there is none, the writer
+    /// Number of failed calls to the writer, as counted by the `Metered` around it or, if there is none, by the writer
     /// itself.
     pub failures: u64,
     /// Number of calls to the writer after the first failure.
@@ -43,8 +43,8 @@ pub fn differing(
     }))
 }
 
-// Returns whether a failed writer explains why the reply to a step that responds is `done`, and not the error of the
-// response's data: the output had ended, so the data were not read, and the error did not occur.
+// Returns whether a failed writer explains why a step that responds got the reply `done` instead of the error of the
+// response's data: the output had ended, so the data was not read, and the error did not occur.
 fn is_unmet(step: &CaseStep, found: &[u8]) -> bool {
     step.is_answer() && found == b"done".as_slice() && step.reply.starts_with(b"fault ")
 }
@@ -202,10 +202,10 @@ fn end_differs(
     differing(alloc, what, found.as_slice(), wanted.as_slice())
 }
 
-/// Returns the first difference of a trial's outcome from its case, if any. If a call to the writer failed because a
-/// failure was injected, the output may be a prefix of the case's, one reply may report the failure, and errors of data
-/// that were not read may be missing. Exactly one failure must then be counted. Otherwise no failure may be counted,
-/// unless the case determines how its writer fails. The writer must never be called again after a failure.
+/// Returns the first difference between a trial's outcome and its case, if any. If a call to the writer failed because
+/// a failure was injected, the output may be a prefix of the case's, one reply may report the failure, and errors of
+/// data that was not read may be missing. Exactly one failure must then be counted. Otherwise no failure may be
+/// counted, unless the case determines how its writer fails. The writer must never be called again after a failure.
 pub fn first_difference(
     alloc: Global,
     case: &Case,

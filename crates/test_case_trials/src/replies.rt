@@ -49,7 +49,8 @@ pub fn given_line(alloc: Global, bytes: &[u8]) -> Result<Vec<u8>, AllocError> {
     Ok(line)
 }
 
-/// Formats the reply to a step of a connection. A request's header fields and a body's bytes are included as they are.
+/// Formats the reply to a step of a connection: the line that `ReplyLine` prints, except that a request's header fields
+/// are added, a body's bytes are included as they are, and every error kind is reported by its own name.
 pub fn reply_line(alloc: Global, reply: &Reply) -> Result<Vec<u8>, AllocError> {
     match reply {
         Reply::Handed(number, head) => {

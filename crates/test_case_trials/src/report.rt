@@ -35,7 +35,7 @@ pub struct CaseFile<'a> {
     pub cases: Vec<Case>,
 }
 
-/// Reads the cases of these files. Fails if `read_cases` fails for one of them.
+/// Reads the cases of these files. Fails if `read_cases` fails for one of them, or if memory can't be allocated.
 pub fn files_of<'a>(
     alloc: Global,
     files: &[NamedFile<'a>],
@@ -57,7 +57,7 @@ pub struct Tally {
     pub runs: u64,
     /// Runs with the client's bytes cut short.
     pub cuts: u64,
-    /// Runs in which one call to the reader failed, and later calls did not.
+    /// Runs with a reader that fails in one call, after which further calls may succeed.
     pub faults: u64,
     /// Runs with one of the client's bytes changed.
     pub changes: u64,
@@ -80,8 +80,8 @@ impl Tally {
 // Maximum number of a case's writer calls that are made to fail, each in a separate run.
 const MOST_CALLS: u64 = 10_000;
 
-// Returns the first difference of a trial's outcome, if any. A reader error is final: if a reader fails once, the
-// outcome must be the same as if the client's bytes were cut there by that error.
+// Returns the first difference of a trial's outcome from the expected one, if any. A reader error is final: if a reader
+// fails once, the outcome must be the same as if the client's bytes were cut there by that error.
 fn difference_of<'a, F: Runner>(
     (alloc, runner): (Global, &mut F),
     case: &Case,
@@ -144,8 +144,8 @@ fn try_once<'a, F: Runner, O: Write>(
     Ok(outcome.has_failed)
 }
 
-// Tries a case once for each call to the writer, and makes that call fail. Ends with a run in which no call fails,
-// since the writer isn't called as often. A case with `MOST_CALLS` calls or more counts as one that differs.
+// Tries a case once for each call to the writer, making that call fail. Ends with a run in which no call fails, because
+// the writer isn't called that many times. A case with `MOST_CALLS` calls or more counts as one that differs.
 fn try_failing<'a, F: Runner, O: Write>(
     (alloc, runner): (Global, &mut F),
     out: &mut O,
@@ -176,9 +176,9 @@ fn is_cut_at(count: usize, length: usize) -> bool {
     count < 1200 || length.saturating_sub(count) <= 50 || count % 997 == 0
 }
 
-// Tries a case with the client's bytes cut short at each position that `is_cut_at` selects: by an end of input, by a
-// timeout, and by an error whose kind depends on the position (`kind_at`). Also tries it there with a reader that fails
-// once, with `TimedOut` and then with `Interrupted`.
+// Tries a case with the client's bytes cut short at each position that `is_cut_at` selects: by the end of input, by a
+// timeout, and by an error whose kind depends on the position (`kind_at`). Also tries it with a reader that fails once
+// there: in one run with `TimedOut`, and in another with `Interrupted`.
 fn try_cuts<'a, F: Runner, O: Write>(
     (alloc, runner): (Global, &mut F),
     out: &mut O,
@@ -234,8 +234,8 @@ fn try_whole<'a, F: Runner, O: Write>(
 }
 
 // Tries a case with the client's complete bytes. If no run differs, and the case doesn't determine how its writer
-// fails, also tries it as `try_cuts` does, unless the case excludes that, and as `try_bytes` does, if the runner knows
-// the requests' numbers.
+// fails, also calls `try_cuts`, unless the case excludes it, and `try_bytes`, if the runner knows the requests'
+// numbers.
 fn try_case<'a, F: Runner, O: Write>(
     (alloc, runner): (Global, &mut F),
     out: &mut O,
@@ -317,8 +317,8 @@ pub fn try_file<'a, F: Runner, O: Write>(
     Ok(places)
 }
 
-/// Tries the cases of each file in the first way, and then in the other ways. Cases that differ in the first way are
-/// left out in the others, where a case with a wrong reply might wait forever. Returns whether no run differed.
+/// Tries the cases of each file in the first way, and then in the other ways. The other ways skip cases that differ in
+/// the first way, since there a case with a wrong reply might wait forever. Returns whether no run differed.
 pub fn try_files<'a, F: Runner, G: Runner, O: Write>(
     alloc: Global,
     (first, others): (&mut F, &mut [G]),

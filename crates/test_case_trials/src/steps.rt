@@ -12,7 +12,7 @@ use tiny_http_wire::response::Response;
 /// An error in converting the steps of a case.
 #[derive(Clone, Copy, Debug, PartialEq, Eq)]
 pub enum StepsFault {
-    /// A header line of a response is invalid, or memory was refused for it.
+    /// A header line of a response is invalid, or memory couldn't be allocated for it.
     BadHeader,
     OutOfMemory,
 }

@@ -9,11 +9,11 @@ use tiny_http_wire::device::{ByPieces, Canned, FailsAt};
 /// A fault injected into a case.
 #[derive(Clone, Copy, Debug, PartialEq, Eq)]
 pub enum Harm {
-    /// This call to the writer fails, counted from 1.
+    /// The writer fails in the call with this number, counted from 1.
     Call(u64),
     /// Only this many of the client's bytes arrive. Then the reader fails with this kind, or reports the end.
     Cut(usize, Option<ErrorKind>),
-    /// The reader returns one byte per call. The call after this many of the client's bytes fails once, with this kind.
+    /// The reader returns one byte per call. After this many of the client's bytes, a single call fails with this kind.
     Once(usize, ErrorKind),
     /// The client's byte at this index is replaced with this value.
     Byte(usize, u8),

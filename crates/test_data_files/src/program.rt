@@ -71,7 +71,8 @@ fn report<E: Write>(program: &str, fault: &FilesFault<'_>, err: &mut E) -> u8 {
 
 /// Checks the files named on the command line, and returns the exit status: 0 if nothing differs, and 3 if something
 /// does. After an error, prints one line to `err`. The status is then 2 if the command line or a file is invalid, in
-/// which case nothing was run, and 1 if a file can't be read, memory is refused, or `out` or `err` can't be written to.
+/// which case nothing was run, and 1 if a file can't be read, memory can't be allocated, or `out` or `err` can't be
+/// written to.
 pub fn run_program<R: Env + Files + AllocGlobal, C: Checker, O: Write, E: Write>(
     rt: &R,
     program: &str,

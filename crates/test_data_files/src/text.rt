@@ -1,4 +1,4 @@
-//! Reads the texts of data files: escapes, abbreviations, and repeated pieces.
+//! Reads the texts of data files, with their escapes, abbreviations and repeated pieces, and formats bytes as texts.
 use std::alloc::{AllocError, Global};
 
 /// An error in reading a text.

@@ -1,5 +1,5 @@
-//! A plain reading of what a client sends, under `Lenient`. It reads all bytes at once, line by line, without a buffer.
-//! The requests of connections are compared with those that it finds.
+//! A plain reading of what a client sends, under `Lenient`. It is given all bytes at once, and reads them line by line,
+//! without a buffer. The requests of connections are compared with those that it finds.
 use crate::parts::{RequestWords, SHORT, add_header, decimal};
 use std::alloc::{AllocError, Global};
 
@@ -142,9 +142,9 @@ impl<'a> PlainHead<'a> {
         self.value("Transfer-Encoding").is_some() || self.tells("upgrade")
     }
 
-    // Returns whether the request is returned or answered with a 505: its first Expect header asks for a 100 and
-    // nothing else, or there is no such header and the body is complete, is longer than `SHORT` bytes, or has no known
-    // length.
+    // Returns whether the connection hands out the request or answers it with a 505. That is so if the first Expect
+    // header asks for a 100 and nothing else, or if there is no such header and the body is complete, is longer than
+    // `SHORT` bytes, or has no known length.
     fn is_whole(&self) -> bool {
         let length = self.length().unwrap_or(0);
         match self.value("Expect") {
@@ -153,7 +153,7 @@ impl<'a> PlainHead<'a> {
         }
     }
 
-    // Returns whether the request is returned, and not answered with a 505 because of its version.
+    // Returns whether the connection hands out the request, instead of answering it with a 505 because of its version.
     fn is_known(&self) -> bool {
         !matches!(self.request.version, "2.0" | "3.0")
     }

@@ -14,8 +14,8 @@ pub struct RequestWords<'a> {
 }
 
 impl<'a> RequestWords<'a> {
-    /// Formats the reply line of the request with this number up to its header fields: with their count, and with the
-    /// content length, or `-` if there is none.
+    /// Formats the reply line of the request with this number, up to but not including its header fields. The line ends
+    /// with `count`, the number of header fields, and `length`, the content length, or `-` if there is none.
     pub fn line(
         &self,
         alloc: Global,

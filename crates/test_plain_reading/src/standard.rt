@@ -1,12 +1,12 @@
-//! A plain reading of what a client sends, under `Standard`. It reads all bytes at once, line by line, without a
-//! buffer. The requests of connections are compared with those that it finds. It is written from docs/RULES.md, and
-//! shares no code with the server. It does not limit the length of a head, since the clients whose bytes it reads send
-//! fewer than 65,536 bytes.
+//! A plain reading of what a client sends, under `Standard`. It is given all bytes at once, and reads them line by
+//! line, without a buffer. The requests of connections are compared with those that it finds. It is written from
+//! docs/RULES.md, and shares no code with the server. It does not limit the length of a head, since the clients whose
+//! bytes it reads send fewer than 65,536 bytes.
 use crate::parts::{RequestWords, SHORT, add_header, decimal};
 use std::alloc::{AllocError, Global};
 use std::fmt::Write;
 
-// Maximum length of a body with a content length that the server discards unread.
+// Maximum content length of a body that the server discards unread.
 const SKIPPED: usize = 65_536;
 
 // Maximum number of field lines of a head.
@@ -339,7 +339,8 @@ impl<'a> StandardHead<'a> {
         has_body && !self.is_old() && self.lists("Expect", "100-continue")
     }
 
-    // Returns whether the request is returned: it is not refused, and a body that is read with the head is complete.
+    // Returns whether the connection hands out the request: the request is not refused, and if its body is read with
+    // the head, the body is complete.
     fn is_handed_out(&self, body: Body) -> bool {
         let is_there = match body {
             Body::Length(length) if length <= SHORT && !self.owes_a_100(body) => {

@@ -9,8 +9,9 @@ use std::time::{Clock, Duration, Instant};
 use std::{io, mem, thread};
 use tiny_http_socket::connection::{Connection, ListenAddr};
 
-// Maximum number of reads that wait for expected bytes. A read that gets none lasts some milliseconds, depending on the
-// system's scheduler; if each lasts four, all of them together last ten seconds.
+// Maximum number of reads that wait for expected bytes or for the end of the connection. A read that gets no bytes
+// lasts some milliseconds, depending on the system's scheduler; if each lasts four, all of them together last ten
+// seconds.
 const READS: u32 = 2_500;
 
 // Size of the read buffer.
@@ -42,7 +43,7 @@ enum End {
     Failed(ErrorKind),
 }
 
-/// A client of a scene: its socket, and the bytes received but not yet checked.
+/// A client of a scene: its socket, the bytes received but not yet checked, and how the connection ended, if it did.
 #[derive(Drop)]
 pub struct Client {
     alloc: Global,
@@ -263,7 +264,7 @@ impl Client {
         Err(differs(self.alloc, "a write fails", "none failed"))
     }
 
-    /// Expects `wanted` as the next bytes, once each Date field line among them is replaced as `dated` does.
+    /// Expects `wanted` as the next bytes, once `dated` has replaced each Date field line among them.
     pub fn gets(&mut self, wanted: &[u8]) -> Result<(), Mishap> {
         self.read_up_to(wanted.len())?;
         let count = wanted.len().min(self.came.len());

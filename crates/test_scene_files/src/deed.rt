@@ -32,8 +32,8 @@ pub enum ClientDeed<'a> {
     /// Expects that the last date in the text of the last `Gets` is the current time, or at most this many seconds
     /// earlier.
     DatedWithin(u64),
-    /// Reads until the connection ends, as `Client::counts` does, and expects at least the first and at most the second
-    /// number of bytes that no earlier step has checked.
+    /// Reads until the connection ends, as `Client::counts` does. Expects the number of bytes that no earlier step has
+    /// checked to be at least the first field and at most the second.
     Counts(usize, usize),
     /// Expects neither bytes nor the end of the connection for this many milliseconds.
     IsIdle(u64),
@@ -71,12 +71,12 @@ pub enum ServerDeed<'a> {
     RecvTimeout(u64, Given<'a>),
     Next(Given<'a>),
     Unblock,
-    /// Calls `stop` with this many milliseconds. The flag is whether all requests are expected to be answered in time.
+    /// Calls `stop` with this many milliseconds. The flag says whether to expect all requests to be answered in time.
     Stop(u64, bool),
     Drop,
-    /// Calls `serve` with the handler, and expects it to return this error or none.
+    /// Calls `serve` with the handler, and expects it to return this error, or to succeed if this is `None`.
     Serve(Option<ErrorKind>),
-    /// Calls `serve_by` with this many threads, and expects it to return this error or none.
+    /// Calls `serve_by` with this many threads, and expects it to return this error, or to succeed if this is `None`.
     ServeBy(usize, Option<ErrorKind>),
     /// Waits until this many clients are connected.
     Clients(usize),
@@ -101,14 +101,15 @@ pub enum ServerDeed<'a> {
     IsFollowed,
     /// Expects that creating a second server at the same address fails with this error.
     Rival(ErrorKind),
-    /// Creates a server with limits at a path where such a file exists, and expects this error or none.
+    /// Creates a server with limits at a path where such a file exists, and expects this error, or success if this is
+    /// `None`. Also expects that a stale socket is gone afterwards, and that any other file still exists.
     At(Found, Option<ErrorKind>),
     /// Expects that creating a server with TLS at another address fails with this message.
     WithTls(&'a str),
     /// Expects that creating a server with TLS at the same address fails with this error.
     RivalWithTls(ErrorKind),
-    /// Creates a server from two addresses, that of the scene's server, which is in use, and one with any free port,
-    /// and expects that the new server does not listen on the first.
+    /// Creates a server from two addresses: that of the scene's server, which is in use, and one with any free port.
+    /// Expects that the new server does not listen on the first.
     AtSecond,
     /// Expects that the server's Unix address is displayed as the path of its socket in quotes, followed by
     /// `(pathname)`.
@@ -159,7 +160,7 @@ pub enum Kept {
 /// A call on a request, or an expectation about its properties.
 #[derive(Clone, Copy)]
 pub enum RequestDeed<'a> {
-    /// Responds with this status and body, and expects this error or none.
+    /// Responds with this status and body, and expects this error, or success if this is `None`.
     Respond(u16, Data<'a>, Option<ErrorKind>),
     Drop,
     /// Expects this text as the rest of the request's body.
@@ -174,7 +175,8 @@ pub enum RequestDeed<'a> {
     ReadBody(usize, Whole<'a>),
     /// Calls `as_reader`, and reads nothing.
     AsReader,
-    /// Expects that the request's first header field of this name has this value, or that it has no such field.
+    /// Expects that the request's first header field of this name has this value, or, if this is `None`, that the
+    /// request has no such field.
     Header(&'a str, Option<&'a str>),
     /// Expects that the request's header fields of this name list this token if the flag is true, and that they don't
     /// otherwise.
@@ -207,7 +209,7 @@ pub enum RequestDeed<'a> {
     /// Upgrades the request to this protocol with `try_upgrade`, which refuses the upgrade if the head doesn't ask for
     /// this protocol. Stores the stream under this name.
     TriesUpgrade(&'a str, &'a str),
-    /// Expects that `try_upgrade` to this protocol returns the request for this reason.
+    /// Expects that `try_upgrade` to this protocol refuses the upgrade for this reason, and returns the request.
     KeepsUpgrade(&'a str, Kept),
     /// Expects that a response to the request would be lost if the flag is true, and that it wouldn't otherwise.
     IsLost(bool),

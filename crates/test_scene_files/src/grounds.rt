@@ -28,7 +28,7 @@ pub enum QueueDeed {
     PopPast(u64, Popped),
     /// Pops with this timeout in milliseconds.
     PopTimeout(u64, Popped),
-    /// Pops with this timeout in milliseconds, the first number, until the result is not the second number.
+    /// Pops until the result is not the second number. The first number is the timeout of each pop in milliseconds.
     PopTimeoutPast(u64, u64, Popped),
     TryPop(Popped),
 }
@@ -115,7 +115,7 @@ pub enum MemoryDeed<'a> {
     Makes(Parts<'a>, Made<'a>),
     /// Builds a request with `new_request`, without a client address.
     News(Parts<'a>, Made<'a>),
-    /// Expects this text as the next bytes written.
+    /// Expects this text as the next bytes written, once `client::dated` has replaced the dates among them.
     Gets(&'a str),
 }
 

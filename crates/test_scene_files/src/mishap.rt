@@ -82,7 +82,7 @@ pub fn demand_number(alloc: Global, wanted: u64, came: u64) -> Result<(), Mishap
 // Maximum number of bytes shown of a text.
 const SHOWN: usize = 200;
 
-// Maximum number of bytes shown of a text that precede its first difference.
+// Maximum number of bytes shown before the first difference of a text.
 const SHOWN_BEFORE: usize = 60;
 
 // Formats at most `SHOWN` bytes of a text from byte `from` on. If that is not the whole text, adds `from` and the

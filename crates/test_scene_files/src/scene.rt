@@ -268,7 +268,7 @@ fn read_line(
 }
 
 /// Reads the scenes of a file from its bytes. Fails at the first invalid line, if a scene has no ground or no step, if
-/// there is no scene, or if memory is refused.
+/// there is no scene, or if memory can't be allocated.
 pub fn read_scenes<'a>(
     alloc: Global,
     name: &'a str,

@@ -88,8 +88,8 @@ fn act_client<R: Wait + Clock + Drop>(
     }
 }
 
-/// Runs a step on a connected client, the queue, a connection over memory, readers or writers that take turns, or the
-/// clock, or pauses. Fails at any other step.
+/// Runs a pause, or a step on a connected client, the queue, a connection or request over memory, readers or writers
+/// that take turns, or the clock. Fails at any other step.
 pub fn act_without_server<R: Wait + Clock + Copy>(
     rt: &R,
     alloc: Global,

@@ -1,4 +1,4 @@
-//! The requests of one kind of connection, and their outputs.
+//! The requests of one kind of connection (those of a server, or those over memory), and their outputs.
 use crate::named::{Named, add_all, part_of};
 use std::alloc::{AllocError, Global};
 use std::sync::Wait;

@@ -19,7 +19,7 @@ pub struct Failure {
     pub mishap: Mishap,
 }
 
-/// Creates a failure at `line`. If memory is refused, the failure does not hold the line's text.
+/// Creates a failure at `line`. If memory can't be allocated, the failure does not hold the line's text.
 pub fn failure_at(alloc: Global, line: &Line, mishap: Mishap) -> Failure {
     let text = match String::from_str(alloc, line.text.as_str()) {
         Ok(text) => text,

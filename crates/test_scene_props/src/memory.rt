@@ -93,7 +93,7 @@ impl<R: Wait + Copy> Memory<R> {
         Ok(Metered::new(Bounded::new(&self.written, self.bound)?))
     }
 
-    // Connects a client whose whole input is `text`.
+    // Connects a client that sends `text` and then ends its output.
     fn connect(&mut self, rt: &R, alloc: Global, text: &str) -> Result<(), Mishap> {
         let reader = Cursor::new(text_of(alloc, text)?);
         let client = ClientConnection::over(*rt, alloc, self.writer()?, reader, None, false)?;

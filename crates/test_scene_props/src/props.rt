@@ -90,7 +90,7 @@ impl<R: Wait + Drop> Props<R> {
     }
 
     /// Takes out the props that `lines` need: the clients, the requests and outputs over memory, and the readers and
-    /// writers that they name. If there is a queue, adds another handle to it.
+    /// writers that they name. If there is a queue, the result also has a handle to it.
     pub fn part(&mut self, alloc: Global, lines: &[Line]) -> Result<Props<R>, AllocError> {
         let mut theirs = Props::none(alloc);
         if let Some(queue) = &self.queue {
@@ -115,8 +115,8 @@ impl<R: Wait + Drop> Props<R> {
         add_all(&mut self.in_turn, in_turn)
     }
 
-    /// Drops what other threads may wait for: first requests and outputs, then the readers and writers that take turns,
-    /// and finally clients.
+    /// Drops what other threads may wait for: first the requests and outputs over memory, then the readers and writers
+    /// that take turns, and finally the clients.
     pub fn clear(&mut self) {
         self.remembered.clear();
         self.in_turn.clear();

@@ -49,7 +49,7 @@ fn pop_past<R: Wait + Clock>(
     Some(passed)
 }
 
-/// Runs a step on the queue. Fails if a pop doesn't return the expected result, or if memory is refused.
+/// Runs a step on the queue. Fails if a pop doesn't return the expected result, or if memory can't be allocated.
 pub fn act_queue<R: Wait + Clock>(
     rt: &R,
     alloc: Global,

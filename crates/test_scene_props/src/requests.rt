@@ -141,7 +141,7 @@ fn respond<D: ReadDevice + Drop, W: WriteDevice + Drop, R: Wait + Clock + Drop>(
     }
 }
 
-/// Builds a response with these data that states the content length `stated`, whatever their real length.
+/// Builds a response with `data` as its body. It states the content length `stated`, whatever the length of `data`.
 pub fn short_answer(
     alloc: Global,
     status: u16,
@@ -262,9 +262,9 @@ fn demand_property(
     demand(alloc, words, came == wanted)
 }
 
-// Checks one property of a request: a header field, whether a token is listed in its header fields with a given name,
-// its path or query, or whether it asks for an upgrade, came over TLS, or would lose its response. Hands any other step
-// to `look_whole`.
+// Checks one property of a request: the value of a header field, whether its header fields of a given name list a
+// token, its path, its query, whether it asks for an upgrade, whether a response to it would be lost, or whether it
+// came over TLS. Hands any other step to `look_whole`.
 fn look<D: ReadDevice + Drop, W: WriteDevice + Drop, R: Wait + Clock + Drop>(
     alloc: Global,
     request: &Request<D, W, R>,

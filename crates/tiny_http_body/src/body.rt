@@ -21,11 +21,11 @@ pub const MOST_SKIPPED: usize = 65_536;
 /// The remainder of a body when its request is finished.
 #[derive(Clone, Copy, Debug, PartialEq, Eq)]
 pub enum Remainder {
-    /// At most `MOST_SKIPPED` bytes of a known length, which can be skipped before the next head. A body that is in
-    /// memory or has ended without a fault counts as `Skipped` too, and so does the whole rest of the input, which no
-    /// head follows.
+    /// At most `MOST_SKIPPED` bytes of a body of known length, which can be skipped before the next head. A body that
+    /// is in memory or has ended without a fault counts as `Skipped`, too, and so does a body that is the entire rest
+    /// of the input, which no head follows.
     Skipped,
-    /// More than `MOST_SKIPPED` bytes of a known length.
+    /// More than `MOST_SKIPPED` bytes of a body of known length.
     Long,
     /// An unknown number of bytes: the end of a chunked body hasn't been read, or the body is cut or broken.
     Endless,
@@ -47,7 +47,7 @@ pub enum UnreadBody {
     },
     /// Chunks of the input.
     Chunked(Decoding),
-    /// The whole rest of the input.
+    /// The entire rest of the input.
     Rest,
 }
 
@@ -147,7 +147,7 @@ impl UnreadBody {
         let mut decoding = decoding;
         match decoding.read(source, buf) {
             Ok(0) => {
-                // The last chunk was read, so nothing after it is asked for.
+                // The input goes on after the body, so the source isn't ended.
                 *self = UnreadBody::Over(Stop::End);
                 Ok(0)
             }
@@ -163,7 +163,7 @@ impl UnreadBody {
         }
     }
 
-    // Reads some bytes of a body that is the whole rest of the input.
+    // Reads some bytes of a body that is the entire rest of the input.
     fn read_rest<R: ReadDevice>(
         &mut self,
         source: &mut Source<R>,
@@ -193,7 +193,7 @@ impl UnreadBody {
 
     /// Reads some bytes of the body into the front of `buf` and returns how many: 0 at the end, or if `buf` is empty.
     /// After the last byte each read into a nonempty `buf` reports the end, or the fault that cut or broke the body.
-    /// After a fault no head follows on the source.
+    /// After a fault, no head can be read from the source.
     pub fn read<R: ReadDevice>(
         &mut self,
         source: &mut Source<R>,
@@ -202,7 +202,7 @@ impl UnreadBody {
         ensures reads { ReadsBody self.old self.new source.old source.new result buf.new }
         // The source's reader reports at most one end or fault, and none if bytes were read.
         ensures stop_count { Tells (R.stop_count source.old.reader) (R.stop_count source.new.reader) result }
-        // The source's reader reports an end or fault only if the body is then cut or broken, or is the whole rest of
+        // The source's reader reports an end or fault only if the body is then cut or broken, or is the entire rest of
         // the input.
         ensures whole { R.stop_count source.new.reader
             ≤ R.stop_count source.old.reader + ends_met self.old (bytes_given result) self.new }
@@ -242,7 +242,7 @@ impl UnreadBody {
         }
     }
 
-    // Returns the input state after a read that left this body, given the state before.
+    // Returns the input state after a read, given the state before it. `self` is the body after the read.
     fn input_state_after(&self, input_state: InputState) -> InputState
         ensures { result ≡ body_input_state self.now input_state }
     {
@@ -253,7 +253,7 @@ impl UnreadBody {
         }
     }
 
-    // Reads some bytes into the buffer from `at` on.
+    // Reads some bytes into the buffer, starting at index `at`.
     fn read_behind<R: ReadDevice>(
         &mut self,
         source: &mut Source<R>,
@@ -289,7 +289,7 @@ impl UnreadBody {
         ensures stop_count { R.stop_count source.new.reader ≤ R.stop_count source.old.reader + 1 }
         ensures lazy { IfOk result
             (λ n. n ≡ length buf.new → R.stop_count source.new.reader ≤ R.stop_count source.old.reader) }
-        // The source's reader reports an end or fault only if the body is then cut or broken, or is the whole rest of
+        // The source's reader reports an end or fault only if the body is then cut or broken, or is the entire rest of
         // the input.
         ensures whole { R.stop_count source.new.reader
             ≤ R.stop_count source.old.reader + ends_met self.old (bytes_given result) self.new }
@@ -363,7 +363,7 @@ impl UnreadBody {
 
     /// Discards the rest of the body. The rest of a body with a `Content-Length` is skipped before the next head. After
     /// a chunked body whose end or fault hasn't been reported, no head follows. For any other body the source is
-    /// unchanged, even if the body is the whole rest of the input.
+    /// unchanged, even if the body is the entire rest of the input.
     pub fn give_up<R: ReadDevice>(&mut self, source: &mut Source<R>)
         ensures over { self.new ≡ UnreadBody.Over Stop.End }
         ensures gives_up { GivesUp self.old source.old source.new }

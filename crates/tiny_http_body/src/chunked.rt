@@ -35,8 +35,8 @@ pub const MOST_TRAILERS: usize = 128;
 /// that is too long is reported before it ends.
 #[derive(Clone, Copy, Debug, PartialEq, Eq)]
 pub enum ChunkRules {
-    /// A line ends at its first CR LF. The chunk size is the text before the first `;`, without bytes 9 and 32 around
-    /// it. Of extensions and trailer lines only the length is checked.
+    /// A line ends at its first CR LF. The chunk size is the text before the first `;`, without surrounding bytes 9 and
+    /// 32. Only the length of extensions and trailer lines is checked.
     Lenient,
     /// As RFC 9112 requires (sections 2.2 and 7.1 to 7.1.2). A line ends at its first LF; an LF without a CR before it
     /// is `InvalidData` as soon as it is read. A chunk-size line begins with its digits; bytes 9 and 32 may follow,
@@ -45,16 +45,16 @@ pub enum ChunkRules {
     Standard,
 }
 
-/// The part of a chunked body that must come next.
+// The part of a chunked body that must come next.
 #[derive(Clone, Copy, Drop)]
 enum Next {
-    /// A chunk-size line.
+    // A chunk-size line.
     Line,
-    /// This many bytes of data, then CR LF.
+    // This many bytes of data, then CR LF.
     Data(u64),
-    /// Nothing: the trailer section has been read.
+    // Nothing: the trailer section has been read.
     Over,
-    /// Nothing: the body broke off with a fault of this kind.
+    // Nothing: the body broke off with a fault of this kind.
     Broken(ErrorKind),
 }
 
@@ -239,7 +239,7 @@ impl Decoding {
     ///
     /// Fails with `InvalidData` if the body breaks the `ChunkRules`, or exceeds `LONGEST_LINE` or `MOST_TRAILERS`; with
     /// `UnexpectedEof` if the reader ends within the body; and with the reader's error kind if the reader fails. The
-    /// data before a fault are returned first, even those of an unfinished chunk. After the end or a fault, each read
+    /// data before a fault is returned first, even that of an unfinished chunk. After the end or a fault, each read
     /// into a nonempty `buf` reports it again without calling the reader.
     pub fn read<R: ReadDevice>(
         &mut self,

@@ -13,8 +13,8 @@ use tiny_http_text::number::Numeral;
 /// The size of a full chunk in bytes (as in the Rust crate).
 pub const CHUNK: usize = 8192;
 
-/// Writes some bytes as one chunk: their number in lower-case hexadecimal without leading zeros, CR LF, the bytes, CR
-/// LF (RFC 9112, section 7.1). Fails with the writer's first fault, after which nothing more is written.
+/// Writes some bytes as one chunk: their number in lowercase hexadecimal without leading zeros, CR LF, the bytes, CR LF
+/// (RFC 9112, section 7.1). Fails with the writer's first fault, after which nothing more is written.
 pub fn put_chunk<W: WriteDevice>(writer: &mut W, bytes: &[u8]) -> Result<(), io::Error>
     // A chunk without bytes would be the last chunk.
     requires { 0 < length bytes.now }
@@ -47,7 +47,7 @@ pub fn put_chunked<D: ReadDevice, W: WriteDevice>(
         Prints (W.sink writer.old) (W.sink writer.new) result (chunked_body feed)) }
     // Whatever the data and the writer state, a fault is the writer's only if the writer's failure count rose.
     ensures uses { CountsFaults (W.sink writer.old) (W.sink writer.new) result }
-    // The data are not read again after their end or fault.
+    // The data isn't read again after its end or fault.
     ensures stop_count { D.stop_count source.new ≤ D.stop_count source.old + 1 }
 {
     let mut buf = [0u8; CHUNK];

@@ -1,4 +1,4 @@
-//! The chunked transfer coding: a writer (RFC 9112, section 7.1).
+//! The chunked transfer coding: a writer that encodes its bytes (RFC 9112, section 7.1).
 ghost use Rattle.std.specs.Prelude.{◌≡◌, ◌+◌, ◌<◌, ◌≤◌, ◌++◌, List, ℕ, [], true, false, length, take, Ok, IfOk};
 ghost use Rattle.std.specs.Prelude.{IfErr, OnOk, OnErr};
 ghost use Rattle.std.specs.IoError.{error_kind};
@@ -16,7 +16,7 @@ use tiny_http_io::device::WriteDevice;
 /// A writer that sends its bytes to another writer in chunks of 8192 bytes. It buffers the bytes of an unfinished
 /// chunk.
 ///
-/// Only `finish` sends the buffered bytes and the end of the body; a dropped encoder sends nothing. After the inner
+/// Only `finish` sends an unfinished chunk and the end of the body; a dropped encoder sends nothing. After the inner
 /// writer's first fault nothing more is written: each later call fails with `BrokenPipe`.
 #[derive(Drop)]
 pub struct Encoder<W: WriteDevice> {

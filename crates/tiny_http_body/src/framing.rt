@@ -32,18 +32,19 @@ pub const STANDARD_HEAD: usize = 65_536;
 /// The strictness with which requests are validated.
 #[derive(Clone, Copy, Debug, PartialEq, Eq)]
 pub enum Profile {
-    /// As the Rust crate, tiny_http 0.12: the first `Content-Length` counts, a `Transfer-Encoding` of any value means
-    /// chunked and overrides the length, and a head may be of any size.
+    /// As in the Rust crate, tiny_http 0.12: the first `Content-Length` counts, a `Transfer-Encoding` of any value
+    /// means chunked and overrides the length, and a head may be of any size.
     Lenient,
-    /// Laxer than `Standard`, which is the profile to use behind a proxy. Like `Lenient`, but it refuses
-    /// `Content-Length` values that aren't one number, `Content-Length` beside `Transfer-Encoding`, a
-    /// `Transfer-Encoding` that doesn't end in `chunked` (RFC 9112, sections 6.1 to 6.3), and a head of more than
-    /// `STRICT_HEAD` bytes (RFC 6585, section 5).
+    /// Like `Lenient`, but it refuses `Content-Length` values that aren't one number, `Content-Length` beside
+    /// `Transfer-Encoding`, a `Transfer-Encoding` that doesn't end in `chunked` (RFC 9112, sections 6.1 to 6.3), and a
+    /// head of more than `STRICT_HEAD` bytes (RFC 6585, section 5). It is laxer than `Standard`, which is the profile
+    /// to use behind a proxy.
     Strict,
-    /// As RFC 9110 and RFC 9112 require: heads follow their grammar, and `tiny_http_standard_head` validates them. What
-    /// `Strict` refuses is refused too; `chunked` is the only transfer coding. The lines of a chunked body follow the
-    /// grammar, a body that is cut is a fault, and a connection is upgraded only as its request asks. A response has
-    /// version 1.1 and says whether the connection persists; a response without a final status code is refused.
+    /// As RFC 9110 and RFC 9112 require: heads follow the grammar of these RFCs, and `tiny_http_standard_head`
+    /// validates them. What `Strict` refuses is refused, too; `chunked` is the only transfer coding. The lines of a
+    /// chunked body follow the grammar, a body that is cut is a fault, and a connection is upgraded only as its request
+    /// asks. A response has version 1.1 and says whether the connection persists; a response without a final status
+    /// code is refused.
     Standard,
 }
 
@@ -85,7 +86,7 @@ pub enum FramingFault {
 /// The way in which a request's body is delimited (RFC 9112, section 6).
 #[derive(Clone, Copy, Debug, PartialEq, Eq)]
 pub enum Form {
-    /// The whole rest of the stream: the first `Connection` value contains `upgrade`. Never under `Standard`.
+    /// The entire rest of the stream: the first `Connection` value contains `upgrade`. Never under `Standard`.
     Rest,
     /// No body.
     Nothing,
@@ -126,7 +127,7 @@ pub fn value_of<'a>(headers: &'a [Header], name: &str) -> Option<&'a AsciiString
     None
 }
 
-// Returns the value found before. If there is none, returns this field's value if the field has the name.
+// Returns `found` if it is `Some`, and otherwise this field's value if the field has this name.
 #[inline(always)]
 fn or_value_of<'a>(
     found: Option<&'a AsciiString>,
@@ -214,8 +215,8 @@ fn is_chunked(headers: &[Header]) -> bool
     is_chunked
 }
 
-// Returns the length under `Strict` if there is no `Transfer-Encoding`. Fails with `Invalid` if the `Content-Length`
-// values aren't one number.
+// Returns the length under `Strict`, given that there is no `Transfer-Encoding`. Fails with `Invalid` if the
+// `Content-Length` values aren't one number.
 fn uncoded_length(headers: &[Header]) -> Result<Option<usize>, FramingFault>
     ensures { result ≡ uncoded_length (one_length (elements_of (codes "Content-Length") headers.now)) }
 {
@@ -247,7 +248,8 @@ fn strict_length(
     Err(FramingFault::Invalid)
 }
 
-// Returns the content length, if any, given the first values of `Transfer-Encoding` and `Content-Length`.
+// Returns the content length under these rules, if there is one, given the first values of `Transfer-Encoding` and
+// `Content-Length`. Under `Strict`, fails as `strict_length` does.
 fn body_length(
     rules: HeadRules,
     coding: Option<&AsciiString>,
@@ -264,8 +266,8 @@ fn body_length(
     }
 }
 
-// Given the value of `Expect`, if there is one, returns whether a 100 is due, or `None` if the expectation can't be
-// met.
+// Returns whether a 100 is due, given the value of `Expect`, if there is one. Returns `None` if the expectation can't
+// be met.
 fn expectation(value: Option<&AsciiString>) -> Option<bool>
     ensures { result ≡ expectation (option_copied value.entry) }
 {

@@ -1,4 +1,4 @@
-//! Reading data into a buffer, or whole into memory.
+//! Reading data into a buffer, or all of it into memory.
 ghost use Rattle.std.specs.Prelude.{◌≡◌, ◌<◌, ◌≤◌, ◌+◌, ◌^◌, length, drop, take, IfOk, IfSome};
 ghost use Rattle.tiny_http_io.specs.Device.{Fills, ReadsFrom, Gathers, Tells};
 
@@ -10,7 +10,7 @@ use tiny_http_io::device::{ReadDevice, read_some};
 /// Maximum number of bytes that are read at a time.
 pub(crate) const PIECE: usize = 8192;
 
-// Reads some bytes into the buffer from `at` on.
+// Reads some bytes into the buffer, starting at index `at`.
 fn read_behind<D: ReadDevice>(source: &mut D, buf: &mut [u8], at: usize) -> Result<usize, io::Error>
     requires { at ≤ length buf.old }
     ensures bound { IfOk result (λ n. at + n ≤ length buf.old) }
@@ -21,12 +21,12 @@ fn read_behind<D: ReadDevice>(source: &mut D, buf: &mut [u8], at: usize) -> Resu
     read_some(source, &mut buf[at..])
 }
 
-/// Reads until the buffer is full or the data end, and returns how many bytes were read. Fails with the fault of the
+/// Reads until the buffer is full or the data ends, and returns the number of bytes read. Fails with the fault of the
 /// data.
 pub(crate) fn fill<D: ReadDevice>(source: &mut D, buf: &mut [u8]) -> Result<usize, io::Error>
     ensures bound { IfOk result (λ n. n ≤ length buf.old) }
     ensures bytes { Fills (D.feed source.old) (D.feed source.new) result buf.new }
-    // The data are not read again after their end or fault, nor after the buffer is full.
+    // The data isn't read again after its end or fault, nor after the buffer is full.
     ensures stop_count { D.stop_count source.new ≤ D.stop_count source.old + 1 }
     ensures lazy { IfOk result (λ n. n ≡ length buf.old → D.stop_count source.new ≤ D.stop_count source.old) }
 {
@@ -41,11 +41,12 @@ pub(crate) fn fill<D: ReadDevice>(source: &mut D, buf: &mut [u8]) -> Result<usiz
     Ok(at)
 }
 
-/// Reads all the data into memory. Fails with the fault of the data, or with `OutOfMemory` if memory is refused.
+/// Reads all the data into memory. Fails with the fault of the data, or with `OutOfMemory` if memory can't be
+/// allocated.
 pub fn gather<D: ReadDevice>(alloc: Global, source: &mut D) -> Result<Vec<u8>, io::Error>
     ensures gathers { IfSome (D.feed source.old)
         (λ feed. length feed.bytes < 2 ^ 63 → Gathers (λ v. v.items) feed result) }
-    // The data are not read again after their end or fault.
+    // The data isn't read again after its end or fault.
     ensures stop_count { D.stop_count source.new ≤ D.stop_count source.old + 1 }
 {
     let mut all = Vec::new(alloc);

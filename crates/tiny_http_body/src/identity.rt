@@ -23,7 +23,7 @@ fn read_into_front<D: ReadDevice>(
 }
 
 // Copies some of the next `left` bytes through the buffer, and returns how many. Fails with `UnexpectedEof` if the data
-// end, or with the first fault of the data or the writer.
+// ends, or with the first fault of the data or the writer.
 fn put_piece<D: ReadDevice, W: WriteDevice>(
     source: &mut D,
     writer: &mut W,
@@ -75,11 +75,11 @@ const SHORT: usize = 256;
 
 const SMALL: usize = 1024;
 
-// The buffer size for data that fill it. A piece then mostly takes one read, and on a socket one write.
+// The buffer size for data that fills it. A piece then usually takes one read, and on a socket one write.
 const LARGE: usize = 65_536;
 
-// Writes the first `n` bytes of the data through a large buffer, in a stack frame of its own: shorter data needn't pay
-// for it.
+// Writes the first `n` bytes of the data through a large buffer, in a stack frame of its own, so that shorter data
+// doesn't pay for that buffer.
 #[inline(never)]
 fn put_large<D: ReadDevice, W: WriteDevice>(
     source: &mut D,
@@ -95,7 +95,7 @@ fn put_large<D: ReadDevice, W: WriteDevice>(
     put_through(source, writer, &mut [0u8; LARGE], n)
 }
 
-/// Writes the first `n` bytes of the data, as they arrive. Fails with `UnexpectedEof` if the data end after fewer than
+/// Writes the first `n` bytes of the data, as they arrive. Fails with `UnexpectedEof` if the data ends after fewer than
 /// `n` bytes, or with the first fault of the data or the writer. After a failure nothing more is written.
 pub fn put_exactly<D: ReadDevice, W: WriteDevice>(
     source: &mut D,
@@ -107,7 +107,7 @@ pub fn put_exactly<D: ReadDevice, W: WriteDevice>(
     // No byte after the first `n` is taken from the data.
     ensures takes { IfSome (D.feed source.old) (λ feed. TakesUpTo n feed (D.feed source.new) result) }
     ensures uses { CountsFaults (W.sink writer.old) (W.sink writer.new) result }
-    // The data are not read again after their end or fault, nor beyond the `n` bytes.
+    // The data isn't read again after its end or fault, nor beyond the `n` bytes.
     ensures stop_count { D.stop_count source.new ≤ D.stop_count source.old + fault_count result }
 {
     if n <= SHORT {

@@ -11,7 +11,7 @@ use crate::framing::{Framing, FramingFault, HeadRules};
 use tiny_http_head::common::{HTTPVersion, Header};
 
 /// Under each of the two sets of rules (`ChunkRules`), any bytes with their stop can be read in exactly one way: either
-/// as a whole chunked body and a rest, or as a body that is cut or broken (RFC 9112, section 7.1).
+/// as a whole chunked body and a remainder, or as a body that is cut or broken (RFC 9112, section 7.1).
 pub fn one_chunked_body()
     ensures some { (rules : ChunkRules) (bytes : List ℕ) (stop : Stop)
         → ((body : List ℕ) × (rest : List ℕ) × WholeChunksBy rules bytes body rest)

@@ -77,7 +77,8 @@ fn put_end<W: WriteDevice>(writer: &mut W, form: StreamedForm) -> Result<(), io:
 }
 
 /// Appends bytes from the front of `bytes`, at least one unless it is empty, to the first `len` bytes of the buffer,
-/// and returns how many. Sends the buffer once it is full.
+/// and returns how many. Sends the buffer once it is full. If the buffer is empty, a full piece is sent without being
+/// copied into it.
 pub(crate) fn gather<W: WriteDevice>(
     writer: &mut W,
     form: StreamedForm,

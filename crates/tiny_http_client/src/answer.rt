@@ -31,7 +31,7 @@ pub enum AnswerFault {
     /// The bytes break a rule of the grammar.
     #[error("malformed")]
     Malformed,
-    /// Memory for the response was refused.
+    /// Memory for the response couldn't be allocated.
     #[error("out of memory")]
     Memory,
 }
@@ -80,8 +80,8 @@ fn read_whole(alloc: Global, method: &Method, rest: &mut Rest<'_>) -> Result<Ans
 
 /// Reads the response to a request with this method from the front of `bytes`, and returns it with the number of bytes
 /// read, which includes skipped interim responses (1xx). Returns `None` if the bytes end before the response does and
-/// break no rule so far; an unfinished line breaks none. See RFC 9112, sections 2.2, 4, 5, 6.3 and 7.1. The original
-/// crate has no such function.
+/// break no rule so far; an unfinished line breaks none. See RFC 9112, sections 2.2, 4, 5, 6.3 and 7.1. The Rust crate
+/// has no such function.
 ///
 /// A line ends at the first CR LF, and is ASCII. The status line is `HTTP/`, a number up to 255, `.`, a number up to
 /// 255, a space, a number up to 65,535, a space, and any text; numbers are decimal without leading zeros. Field lines
@@ -96,7 +96,7 @@ fn read_whole(alloc: Global, method: &Method, rest: &mut Rest<'_>) -> Result<Ans
 /// # Errors
 /// - `Malformed` if a finished line of a head breaks a rule, if a body must follow and the head has neither `chunked`
 ///   nor a valid length, or if decoding the chunked body reports `InvalidData`.
-/// - `Memory` if memory for the headers of a head, interim ones included, or for the body is refused.
+/// - `Memory` if memory for the headers of a head, interim ones included, or for the body can't be allocated.
 pub fn read_answer(
     alloc: Global,
     method: &Method,

@@ -31,7 +31,7 @@ pub enum AnswerHeadFault {
     /// The bytes break a rule of the grammar, a value has a byte that isn't ASCII, or there are more than 64 headers.
     #[error("malformed")]
     Malformed,
-    /// Memory for the headers was refused.
+    /// Memory for the headers couldn't be allocated.
     #[error("out of memory")]
     Memory,
 }
@@ -48,7 +48,7 @@ impl From<AllocError> for AnswerHeadFault {
 }
 
 // Copies the headers at these spans. Fails with `Malformed` if a byte of a name or a value isn't ASCII, and only then;
-// with `Memory` if memory is refused.
+// with `Memory` if memory can't be allocated.
 fn headers_at(
     alloc: Global,
     bytes: &[u8],
@@ -74,7 +74,7 @@ fn headers_at(
 }
 
 /// Reads the head of a response from the front of `bytes`, and returns it with the number of bytes read (RFC 9112,
-/// sections 2.2, 4 and 5): a status line in version 1.0 or 1.1 with a status of three digits, and field lines up to an
+/// sections 2.2, 4 and 5): a status line with version 1.0 or 1.1 and a status of three digits, and field lines up to an
 /// empty line. White space around a value is optional, a line may end in LF alone, and empty lines may come first. The
 /// body follows the head, as its status and headers and the request's method determine (section 6.3). Returns `None` if
 /// the bytes end before the head does and further bytes can still complete it.
@@ -82,7 +82,7 @@ fn headers_at(
 /// # Errors
 /// - `Malformed` if no further bytes can complete the head, or if there are more than 64 headers; once the head is
 ///   complete, also if a value has a byte that isn't ASCII.
-/// - `Memory` if memory for the headers is refused.
+/// - `Memory` if memory for the headers can't be allocated.
 pub fn read_answer_head(
     alloc: Global,
     bytes: &[u8],

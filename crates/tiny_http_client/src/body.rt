@@ -18,7 +18,7 @@ use tiny_http_text::ascii::AsciiString;
 // The maximum number of bytes of a chunked body that are decoded at a time.
 const PIECE: usize = 1024;
 
-// Returns whether no body follows the head: only after a 204, a 304, and any response to a `HEAD`.
+// Returns whether no body follows the head. That is so only after a 204, a 304, and any response to a `HEAD`.
 fn has_no_body(method: &Method, status: StatusCode) -> bool
     ensures { result ≡ has_no_body method.now status.0 }
 {
@@ -104,8 +104,9 @@ fn read_counted(alloc: Global, length: usize, rest: &mut Rest<'_>) -> Result<Vec
     }
 }
 
-/// Reads the body that follows a head. The request's method and the head determine the body's extent. Also fails with
-/// `Malformed` if a body must follow and the head states neither chunks nor a valid length.
+/// Reads the body that follows a head. The request's method and the head determine the body's extent. Fails with
+/// `Malformed` if a chunked body is malformed, and also if a body must follow and the head states neither chunks nor a
+/// valid length.
 pub(crate) fn read_body(
     alloc: Global,
     method: &Method,

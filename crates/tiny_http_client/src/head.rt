@@ -22,7 +22,7 @@ pub(crate) enum Fault {
     Unfinished,
     /// The bytes break a rule.
     Malformed,
-    /// Memory for the part was refused.
+    /// Memory for the part couldn't be allocated.
     Memory,
 }
 
@@ -44,8 +44,8 @@ pub(crate) struct HeadParts {
     pub(crate) headers: Vec<Header>,
 }
 
-// Parses the decimal number before the first `c`, at most `most`, and returns it with the text after that `c`. Returns
-// `None` if there is no `c`, or no such number before it.
+// Parses the decimal number, of at most `most`, before the first `c`, and returns it with the text after that `c`.
+// Returns `None` if there is no `c`, or no such number before it.
 fn decimal_until(text: &[u8], c: u8, most: usize) -> Option<(usize, &[u8])>
     requires { AreAscii text.now }
     ensures some { IfSome result (λ r. (decimal_until most c text.now ≡ Some (r.0, r.1.now)) × AreAscii r.1.now) }
@@ -94,7 +94,7 @@ fn after_one_space(text: &[u8]) -> Option<&[u8]>
 }
 
 // Parses a field line, with exactly one space after the first colon (RFC 9112, section 5). Returns `None` if the text
-// isn't a field line. Fails only if the text is a field line and memory for its header is refused.
+// isn't a field line. Fails only if the text is a field line and memory for its header can't be allocated.
 fn parse_field_line(alloc: Global, text: &[u8]) -> Result<Option<Header>, AllocError>
     requires { AreAscii text.now }
     ensures value { IfOk result (λ found. found ≡ field_line_read text.now) }
@@ -135,7 +135,7 @@ fn read_status_line(rest: &mut Rest<'_>) -> Result<(HTTPVersion, StatusCode), Fa
 
 // Reads the next field line and returns its header, or reads the empty line and returns `None`. Fails with `Unfinished`
 // if the line isn't finished, with `Malformed` if it isn't empty and isn't a field line in ASCII, and with `Memory` if
-// memory for its header is refused.
+// memory for its header can't be allocated.
 fn read_field_line(alloc: Global, rest: &mut Rest<'_>) -> Result<Option<Header>, Fault>
     ensures { ReadsFieldLine rest.old rest.new result }
 {

@@ -43,8 +43,8 @@ pub fn one_client_answer()
         → MatchResult (answer_read method bytes) (λ a. ReadsAnswer method bytes a.0 a.1) (LacksAnswer method bytes) }
 {}
 
-/// Any bytes are read as exactly one list of responses to requests with these methods, in order, and one rest. The list
-/// ends when the methods are used up, or when the rest doesn't begin with a response to the next method.
+/// Any bytes are read as exactly one list of responses to requests with these methods, in order, and one remainder. The
+/// list ends when the methods are used up, or when the remainder doesn't begin with a response to the next method.
 pub fn one_list_of_client_answers()
     ensures some { (methods : List Method) (bytes : List ℕ)
         → (answers : List ClientAnswer) × (rest : List ℕ) × ReadsAnswers methods bytes answers rest }

@@ -1,4 +1,4 @@
-//! A reader of bytes in memory. It takes a line, or a given number of bytes, from their front.
+//! A reader of bytes in memory, which takes a line, or a given number of bytes, from their front.
 ghost use Rattle.std.specs.Prelude.{◌≡◌, ◌+◌, ◌<◌, ◌≤◌, ◌++◌, length, take, drop, Some, IfSome, IfNone};
 ghost use Rattle.tiny_http_text.specs.Lines.{Line, IsUnfinished};
 ghost use Rattle.tiny_http_io.specs.Device.{whole_feed};
@@ -21,7 +21,7 @@ fn line_end(bytes: &[u8]) -> Option<usize>
     None
 }
 
-// Returns the first line and the bytes after its CR LF, if the line is finished.
+// Returns the first line and the bytes after its CR LF, if the line is complete.
 fn split_line(bytes: &[u8]) -> Option<(&[u8], &[u8])>
     ensures some { IfSome result (λ r. Line bytes.now r.0.now r.1.now) }
     ensures none { IfNone result (IsUnfinished bytes.now) }
@@ -57,7 +57,7 @@ impl<'a> Rest<'a> {
         self.bytes.len()
     }
 
-    /// Takes the first line and its CR LF, if the line is finished, and returns the line without the CR LF.
+    /// Takes the first line and its CR LF, if the line is complete, and returns the line without the CR LF.
     pub(crate) fn take_line(&mut self) -> Option<&'a [u8]>
         ensures some { IfSome result (λ text. Line self.old text.now self.new) }
         ensures none { IfNone result (IsUnfinished self.old) }

@@ -46,27 +46,27 @@ pub enum Step<D> {
     /// response. Neither applies if that request is the connection's last. No head follows a chunked body that was
     /// given up before its end was reported.
     Ask,
-    /// Sends the 100 that is owed to the request of this number, in its turn. If none is owed, changes nothing.
+    /// Sends the 100 that is owed to the request with this number, in its turn. If none is owed, changes nothing.
     AsReader(u64),
-    /// Reads the body of the request of this number, or the stream of its upgrade, until it has read this many bytes, 0
-    /// to 65,535, or no more follow.
+    /// Reads the body of the request with this number, or its upgraded stream, until it has read this many bytes, 0 to
+    /// 65,535, or no more follow.
     Read(u64, u16),
-    /// Responds to the request of this number in its turn, and gives up its body.
+    /// Responds to the request with this number in its turn, and gives up its body.
     Respond(u64, Response<D>),
-    /// Takes the raw writer of the request of this number in place of a response, and gives up its body.
+    /// Takes the raw writer of the request with this number in place of a response, and gives up its body.
     IntoWriter(u64),
-    /// Writes these bytes through the raw writer of this number, or to the stream of its upgrade, in its turn. They may
-    /// be held until the number's `Flush` or `Finish`.
+    /// Writes these bytes to this number's raw writer or upgraded stream, in its turn. They may be held until the
+    /// number's `Flush` or `Finish`.
     Write(u64, Vec<u8>),
     /// Sends what was written under this number, in its turn.
     Flush(u64),
-    /// Responds to the request of this number in its turn, and upgrades the connection to this protocol. `Read` then
-    /// reads from the stream, and `Write` writes to it, until `Finish`. The stream reads what is left of the request's
-    /// body, or under `Standard` all bytes after the body.
+    /// Responds to the request with this number in its turn, and upgrades the connection to this protocol. `Read` then
+    /// reads from the upgraded stream, and `Write` writes to it, until `Finish`. The stream reads what is left of the
+    /// request's body, or under `Standard` all bytes after the body.
     Upgrade(u64, String, Response<D>),
-    /// Ends the raw writer of this number, or the stream of its upgrade. What was written is sent in its turn.
+    /// Ends this number's raw writer or upgraded stream. What was written is sent in its turn.
     Finish(u64),
-    /// Drops the request of this number, and gives up its body. The response is an empty 500, dated when the request
+    /// Drops the request with this number, and gives up its body. The response is an empty 500, dated when the request
     /// was handed out.
     Drop(u64),
 }
@@ -84,7 +84,7 @@ pub struct Timed<D> {
 /// The reply to a step.
 #[derive(Drop)]
 pub enum Reply {
-    /// The request of this number was handed out. Refused heads take numbers too.
+    /// The request with this number was handed out. Refused heads take numbers, too.
     Handed(u64, Head),
     /// The connection has no further request.
     Ended,
@@ -92,18 +92,18 @@ pub enum Reply {
     /// byte reports the end with an empty `Given`, or the fault with `Fault`.
     Given(Vec<u8>),
     /// The body ends with this fault, or the writer or the response's data failed with it. It is `OutOfMemory` if
-    /// memory for the data of a `Respond` was refused.
+    /// memory for the data of a `Respond` couldn't be allocated.
     Fault(ErrorKind),
     /// The step has to wait, and nothing has changed. An `Ask` waits for the last body to be read or given up, or for
     /// the response to a request that asks for an upgrade. A `Respond` or an `Upgrade` that isn't refused, a `Write`, a
     /// `Flush`, and an `AsReader` that has a 100 to send wait for their turn.
     NotYet,
-    /// The step was done, and met no fault that is reported.
+    /// The step was done, and encountered no fault that is reported.
     Done,
     /// An upgrade was refused, or, under `Standard`, a response was refused because of its status code. The request was
     /// dropped.
     Refused,
-    /// No request of this number accepts the step. Nothing has changed.
+    /// No request with this number accepts the step. Nothing has changed.
     NoSuch,
     /// Out of memory. A `Read` has then changed nothing. After such an `Ask`, every later one is `Ended`.
     Memory,
@@ -152,7 +152,7 @@ impl Reply {
 }
 
 // Responds to a request whose turn has come, and returns the reply. `left` is what remains of the request's body. After
-// the output has ended nothing is sent, the data are left unread, and the reply is `Done`.
+// the output has ended nothing is sent, the data is left unread, and the reply is `Done`.
 fn answer<W: WriteDevice, D: ReadDevice + Drop>(
     alloc: Global,
     request: &mut OpenRequest<UnreadBody>,
@@ -259,7 +259,7 @@ impl<R: ReadDevice, W: WriteDevice> Connection<R, W> {
         self.pending.requests.len()
     }
 
-    /// Returns whether the request of this number awaits its response.
+    /// Returns whether the request with this number awaits its response.
     pub fn is_open(&self, number: u64) -> bool
         ensures { result ≡ is_some (waiting_response_context (slice_get self.now.requests number)) }
     {
@@ -276,18 +276,18 @@ impl<R: ReadDevice, W: WriteDevice> Connection<R, W> {
     ///
     /// Returns `Ended` if the connection has no further request, and so does each later call. `end_of_requests` returns
     /// why. A refused head gets an error response under its own number, in its turn, and ends the requests, with one
-    /// exception: after a head that is refused with 505 the same call reads the next head, unless that head names an
-    /// upgrade, its body is chunked, or the profile is `Standard`.
+    /// exception: after a head that is refused with 505 the same call reads the next head, unless the refused head
+    /// names an upgrade, its body is chunked, or the profile is `Standard`.
     ///
-    /// Returns `Memory` if memory is refused, which ends the requests too. The requests also end after a response that
-    /// was made with `with_close`, and after a chunked body that was given up before its end was reported. Under
-    /// `Standard` they also end after a request that asked for an upgrade, once it is upgraded or its raw writer is
-    /// taken, and after a request that is answered or dropped, or whose raw writer is taken, while its 100 is owed or
-    /// more than 65,536 bytes of a body with a `Content-Length` are unread.
+    /// Returns `Memory` if memory can't be allocated, which ends the requests too. The requests also end after a
+    /// response that was made with `with_close`, and after a chunked body that was given up before its end was
+    /// reported. Under `Standard` they also end after a request that asked for an upgrade, once it is upgraded or its
+    /// raw writer is taken, and after a request that is answered or dropped, or whose raw writer is taken, while its
+    /// 100 is owed or more than 65,536 bytes of a body with a `Content-Length` are unread.
     ///
-    /// The call waits for the client only until the head and a body of up to 1024 bytes have come, or only the head if
-    /// the request expects a 100. Before that it waits for the rest of a body with a content length that was given up
-    /// or skipped. After the last request it doesn't call the reader.
+    /// The call waits for the client only until the head and a body of up to 1024 bytes have arrived, or only the head
+    /// if the request expects a 100. Before that it waits for the rest of a body with a content length that was given
+    /// up or skipped. After the last request it doesn't call the reader.
     #[inline(never)]
     pub fn ask(&mut self, alloc: Global, now: HttpDate) -> Reply
         ensures step { TakesStep self.old self.new now Step.Ask (seen result) }
@@ -323,13 +323,13 @@ impl<R: ReadDevice, W: WriteDevice> Connection<R, W> {
         }
     }
 
-    /// Sends the 100 that is owed to the request of this number, flushes (RFC 9110, section 10.1.1), and returns
+    /// Sends the 100 that is owed to the request with this number, flushes it (RFC 9110, section 10.1.1), and returns
     /// `Done`. `now` is the `Date` of the 100. The body can be read afterwards.
     ///
     /// Returns `Done` and changes nothing if no 100 is owed. After the output has ended nothing is sent, and the 100 is
     /// no longer owed. Returns `NotYet` if a 100 is owed and a number before this one isn't finished, and `NoSuch` if
     /// this number doesn't await its response; then nothing has changed. No reply reports a fault of the writer. The
-    /// call takes no memory.
+    /// call allocates nothing.
     #[inline(never)]
     pub fn send_continue(&mut self, alloc: Global, now: HttpDate, number: u64) -> Reply
         ensures step { TakesStep self.old self.new now (Step.AsReader number) (seen result) }
@@ -348,15 +348,15 @@ impl<R: ReadDevice, W: WriteDevice> Connection<R, W> {
         Reply::Done
     }
 
-    /// Reads the body of the request of this number, or the stream of its upgrade, until it has read `count` bytes or
-    /// no more follow, and returns them in `Given`, which is empty once the body has ended. The call sends nothing, and
-    /// so takes no date.
+    /// Reads the body of the request with this number, or its upgraded stream, until it has read `count` bytes or no
+    /// more follow, and returns them in `Given`, which is empty once the body has ended. The call sends nothing, and so
+    /// takes no date.
     ///
     /// If the body is cut or broken, the read after its last byte returns `Fault`, as does each later read; a body with
     /// a `Content-Length` that the end of input cuts has a fault under `Standard`, and otherwise ends there. Returns
-    /// `NoSuch` if this number neither awaits its response nor has the stream of an upgrade, or while its 100 is owed.
-    /// Returns `Memory` if memory for `count` bytes is refused; then nothing has changed. If `count` is 0, it returns
-    /// `NoSuch` or an empty `Given`.
+    /// `NoSuch` if this number neither awaits its response nor has an upgraded stream, or while its 100 is owed.
+    /// Returns `Memory` if memory for `count` bytes can't be allocated; then nothing has changed. If `count` is 0, it
+    /// returns `NoSuch` or an empty `Given`.
     #[inline(never)]
     pub fn read(&mut self, alloc: Global, number: u64, count: u16) -> Reply
         ensures step { (date : Date) → TakesStep self.old self.new date (Step.Read number count) (seen result) }
@@ -364,8 +364,8 @@ impl<R: ReadDevice, W: WriteDevice> Connection<R, W> {
         ensures stop_count { R.stop_count self.new.source.reader ≤ R.stop_count self.old.source.reader + 1 }
         ensures lazy { (bytes : List ℕ) → seen result ≡ Given bytes → length bytes ≡ count
             → R.stop_count self.new.source.reader ≤ R.stop_count self.old.source.reader }
-        // A read meets an end or fault of the reader only if the body is then cut or broken, or is the whole rest of
-        // the input.
+        // A read encounters an end or fault of the reader only if the body is then cut or broken, or is the entire rest
+        // of the input.
         ensures whole { ReadMeets R.stop_count self.old self.new number (seen result) }
     {
         if !self.pending.is_readable(number) {
@@ -389,14 +389,14 @@ impl<R: ReadDevice, W: WriteDevice> Connection<R, W> {
         }
     }
 
-    /// Drops the request of this number, gives up its body, and returns `Done`. Returns `NoSuch` if the number doesn't
-    /// await its response. The response is an empty 500, dated when the request was handed out. Under `Standard` it
-    /// says `Connection: close` if a response from `respond` would.
+    /// Drops the request with this number, gives up its body, and returns `Done`. Returns `NoSuch` if the number
+    /// doesn't await its response. The response is an empty 500, dated when the request was handed out. Under
+    /// `Standard` it says `Connection: close` if a response from `respond` would.
     ///
     /// The 500 is sent by this call, or by the call that finishes the last of the unfinished numbers before this one.
-    /// The reply is never `NotYet`, and never reports a fault of the writer. The call takes no memory. Under `Standard`
-    /// no request follows one that is dropped or answered while its 100 is owed, or while more than 65,536 bytes of a
-    /// body with a `Content-Length` are unread.
+    /// The reply is never `NotYet`, and never reports a fault of the writer. The call allocates nothing. Under
+    /// `Standard` no request follows one that is dropped or answered while its 100 is owed, or while more than 65,536
+    /// bytes of a body with a `Content-Length` are unread.
     #[inline(never)]
     pub fn drop_request(&mut self, number: u64) -> Reply
         ensures step { (date : Date) → TakesStep self.old self.new date (Step.Drop number) (seen result) }
@@ -407,7 +407,7 @@ impl<R: ReadDevice, W: WriteDevice> Connection<R, W> {
         Reply::Done
     }
 
-    // Drops the request of this number, and gives up its body. Returns whether it awaited its response.
+    // Drops the request with this number, and gives up its body. Returns whether it awaited its response.
     #[inline(never)]
     fn let_go(&mut self, number: u64) -> bool
         ensures drops { IsTrue result → Drops number self.old self.new }
@@ -425,11 +425,11 @@ impl<R: ReadDevice, W: WriteDevice> Connection<R, W> {
         true
     }
 
-    /// Responds to the request of this number, gives up its body, and returns `Done`. `now` is the response's `Date`.
+    /// Responds to the request with this number, gives up its body, and returns `Done`. `now` is the response's `Date`.
     /// Returns `Fault` if the writer failed while the response was sent, or the response's data broke off; then nothing
     /// more is sent on the connection, and later responses are `Done` and unsent. For a fault that means that the
-    /// client has disconnected, the reply is `Done`. If memory is refused for data that have to be read whole before
-    /// the head is sent, the fault is `OutOfMemory`.
+    /// client has disconnected, the reply is `Done`. If memory can't be allocated for data that has to be read to its
+    /// end before the head is sent, the fault is `OutOfMemory`.
     ///
     /// Returns `NotYet` while a number before this one isn't finished, and `NoSuch` if this number doesn't await its
     /// response; then the response is dropped, and nothing has changed. Under `Standard` it returns `Refused`, in the
@@ -437,13 +437,13 @@ impl<R: ReadDevice, W: WriteDevice> Connection<R, W> {
     /// then the request is dropped.
     ///
     /// Under `Standard` the response says `Connection: close` if the request is the last according to its head, its 100
-    /// is owed, more than 65,536 bytes of a body with a `Content-Length` weren't given out, or the end of its body
-    /// isn't known. This doesn't depend on what a later `ask` finds.
+    /// is owed, more than 65,536 bytes of a body with a `Content-Length` are unread, or the end of its body isn't
+    /// known. This doesn't depend on what a later `ask` finds.
     ///
     /// After a response that was made with `with_close` no further head is read: a later `ask` returns `Ended`. Under
     /// `Standard` the response to the last number issued so far says `Connection: close`: this response, or that to a
-    /// later request or refused head. The response to a later request doesn't say it if that request was already
-    /// dropped, is upgraded, or its raw writer is taken.
+    /// later request or refused head. The response to a later request doesn't say so if that request was already
+    /// dropped or is upgraded, or if its raw writer is taken.
     #[inline(never)]
     pub fn respond<D: ReadDevice + Drop>(
         &mut self,
@@ -479,7 +479,7 @@ impl<R: ReadDevice, W: WriteDevice> Connection<R, W> {
         reply
     }
 
-    /// Takes the raw writer of the request of this number in place of a response, gives up the request's body, and
+    /// Takes the raw writer of the request with this number in place of a response, gives up the request's body, and
     /// returns `Done`, in the number's turn or before it. Returns `NoSuch` if the number doesn't await its response.
     ///
     /// The call sends nothing: after a 100 that was already sent, the client gets only the bytes that `write` writes. A
@@ -498,9 +498,9 @@ impl<R: ReadDevice, W: WriteDevice> Connection<R, W> {
         Reply::Done
     }
 
-    /// Writes bytes through the raw writer of this number, or to the stream of its upgrade, and returns `Done`. Returns
-    /// `Fault` if the writer fails in these bytes or in what was held before them. Up to 1024 bytes may be held until
-    /// `flush` or `finish`.
+    /// Writes bytes to this number's raw writer or upgraded stream, and returns `Done`. Returns `Fault` if the
+    /// connection's writer fails while these bytes, or those held before them, are sent. Up to 1024 bytes may be held
+    /// until `flush` or `finish`.
     ///
     /// A fault of any kind is reported. After it nothing more is sent on the connection, and later writes are `Done`
     /// and unsent. Returns `NotYet` while a number before this one isn't finished, and `NoSuch` if this number has no
@@ -537,12 +537,12 @@ impl<R: ReadDevice, W: WriteDevice> Connection<R, W> {
 
     /// Upgrades the connection of this number's request to this protocol, with this response (RFC 9110, section 7.8),
     /// and returns `Done`. It sends and flushes the response's head with `Connection: upgrade` and `Upgrade: PROTOCOL`,
-    /// and drops its data unread. `now` is the response's `Date`. The call takes no memory, and no reply reports a
+    /// and drops its data unread. `now` is the response's `Date`. The call allocates nothing, and no reply reports a
     /// fault of the writer.
     ///
     /// From then on `read` returns what is left of the request's body, which is all that follows if the request's head
     /// names an upgrade; under `Standard` it returns all that follows the body. `write`, `flush` and `finish` act as
-    /// for a raw writer.
+    /// they do for a raw writer.
     ///
     /// Returns `Refused` if the protocol isn't ASCII, in the number's turn or before it; then the request is dropped.
     /// Under `Standard` it is also `Refused` if the request doesn't ask for this protocol or is its connection's last,
@@ -580,10 +580,10 @@ impl<R: ReadDevice, W: WriteDevice> Connection<R, W> {
         Reply::Done
     }
 
-    /// Ends the raw writer of this number, or the stream of its upgrade, gives up the body, and returns `Done`, in the
-    /// number's turn or before it. Returns `NoSuch` if the number has no raw writer or stream. In its turn it sends
-    /// what was written, and the texts that were left for the numbers directly after it. The call takes no memory, and
-    /// no reply reports a fault of the writer.
+    /// Ends this number's raw writer or upgraded stream, gives up the body, and returns `Done`, in the number's turn or
+    /// before it. Returns `NoSuch` if the number has no raw writer or stream. In its turn it sends what was written,
+    /// and the waiting responses of the numbers directly after it. The call allocates nothing, and no reply reports a
+    /// fault of the writer.
     #[inline(never)]
     pub fn finish(&mut self, alloc: Global, number: u64) -> Reply
         ensures step { (date : Date) → TakesStep self.old self.new date (Step.Finish number) (seen result) }
@@ -601,7 +601,7 @@ impl<R: ReadDevice, W: WriteDevice> Connection<R, W> {
     // The calls aren't inlined here: otherwise each step would zero the stack space of all of them.
     pub fn step<D: ReadDevice + Drop>(&mut self, alloc: Global, timed: Timed<D>) -> Reply
         ensures step { TakesStep self.old self.new timed.now (stated_step D.feed timed.step) (seen result) }
-        // Bounds the number of ends and faults of the client's reader that a Read meets. The other steps are
+        // Bounds the number of ends and faults of the client's reader that a `Read` encounters. The other steps are
         // unrestricted.
         ensures meets { StepMeets R.stop_count (stated_step D.feed timed.step) self.old self.new (seen result) }
     {
@@ -623,7 +623,7 @@ impl<R: ReadDevice, W: WriteDevice> Connection<R, W> {
     }
 
     /// Ends the connection, and returns the reader and the writer with their buffers. Requests that await their
-    /// responses get none, and texts that wait for their turn aren't sent.
+    /// responses get none, and responses that wait for their turn aren't sent.
     pub fn into_parts(self) -> (Source<R>, Outlet<W>)
         ensures conversation { (p : Profile) (client : Feed) (before : Sink) (steps : List TimedValue)
             (replies : List ReplyValue)

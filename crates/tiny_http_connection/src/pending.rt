@@ -1,4 +1,4 @@
-//! The requests of a connection that aren't finished, and the texts that wait for their turn.
+//! The unfinished requests of a connection, and the response texts that wait for their turn.
 ghost use Rattle.std.specs.Prelude.{◌≡◌, ◌↔◌, ◌≤◌, ◌<◌, ◌^◌, ◌+◌, ◌++◌, ◌∷◌, true, false, List, [], length, Some};
 ghost use Rattle.std.specs.Prelude.{None, IfOk, IfSome, IfNone, is_some, OnOk, OnErr, IsTrue, ◌==◌, slice_get};
 ghost use Rattle.std.specs.Prelude.{slice_set};
@@ -45,11 +45,12 @@ pub enum Unfinished {
     Waiting(OpenRequest<UnreadBody>),
     /// The raw writer of the request is in use. The body has been given up.
     Raw,
-    /// The request was upgraded. The stream of the upgrade reads from this body.
+    /// The request was upgraded. The upgraded stream reads from this body.
     Upgraded(UnreadBody),
 }
 
-/// The numbers of a connection: their turns, and the state of each request that isn't finished.
+/// The numbers of a connection's requests and refused heads: their turns, and the state of each request that isn't
+/// finished.
 #[derive(Drop)]
 pub(crate) struct Pending {
     pub turns: Turns<()>,
@@ -68,8 +69,8 @@ impl Pending {
         }
     }
 
-    /// Issues the next number, and keeps `request` under it, which is `None` for a refused head. On an error nothing
-    /// changes.
+    /// Issues the next number, and keeps `request`, which is `None` for a refused head, under it. A call that fails
+    /// drops `request` and changes nothing else.
     #[inline(always)]
     pub fn issue(&mut self, request: Option<Unfinished>) -> Result<u64, TurnsError>
         ensures number { IfOk result (λ n. n ≡ length self.old.turns.marks) }
@@ -97,8 +98,8 @@ impl Pending {
         matches!(self.requests.get(number), Some(Unfinished::Waiting(_)))
     }
 
-    /// Returns whether the body of this number can be read: it awaits its response and no 100 is owed, or the stream of
-    /// its upgrade is in use.
+    /// Returns whether the body of this number can be read: it awaits its response and no 100 is owed, or its upgraded
+    /// stream is in use.
     pub fn is_readable(&self, number: u64) -> bool
         ensures { result ≡ is_readable (slice_get self.now.requests number) }
     {
@@ -109,7 +110,7 @@ impl Pending {
         }
     }
 
-    /// Returns whether bytes can be written under this number: its raw writer or the stream of its upgrade is in use.
+    /// Returns whether bytes can be written under this number: its raw writer or its upgraded stream is in use.
     pub fn is_writable(&self, number: u64) -> bool
         ensures { result ≡ is_writable (slice_get self.now.requests number) }
     {
@@ -129,7 +130,7 @@ impl Pending {
         }
     }
 
-    /// Returns whether this number awaits its response, and the next head isn't read before that response.
+    /// Returns whether this number awaits its response and the next head isn't read before that response.
     pub fn holds_next_head(&self, number: u64) -> bool
         ensures { result ≡ holds_next_head_at (slice_get self.now.requests number) }
     {
@@ -139,7 +140,7 @@ impl Pending {
         }
     }
 
-    /// Returns whether this number awaits its response, and a response with this status code is refused.
+    /// Returns whether this number awaits its response and a response with this status code is refused.
     pub fn refuses(&self, number: u64, status: StatusCode) -> bool
         ensures { result ≡ refuses_at status.0 (slice_get self.now.requests number) }
     {
@@ -149,7 +150,7 @@ impl Pending {
         }
     }
 
-    /// Returns whether this number awaits its response, and an upgrade to this protocol by a response with this status
+    /// Returns whether this number awaits its response and an upgrade to this protocol by a response with this status
     /// code is refused.
     pub fn refuses_upgrade(&self, number: u64, protocol: &str, status: StatusCode) -> bool
         ensures { result ≡ refuses_upgrade_at protocol.now status.0 (slice_get self.now.requests number) }
@@ -162,9 +163,10 @@ impl Pending {
         }
     }
 
-    /// Returns whether this number awaits its response, and no head is read after it once it takes over the
-    /// connection's stream: either the next head waits for the response to this request (`holds_next_head`), or no head
-    /// would be read after this request even if it were answered now.
+    /// Returns whether this number awaits its response and no head is read after it once its raw writer or an upgrade
+    /// takes over the connection's stream: either the next head waits for the response to this request
+    /// (`holds_next_head`), or no head would be read after this request even if it were answered now. This may be false
+    /// for a request that is the last one according to its own head.
     pub fn is_last_with_stream(&self, number: u64) -> bool
         ensures { result ≡ is_last_with_stream_at (slice_get self.now.requests number) }
     {
@@ -176,7 +178,7 @@ impl Pending {
         }
     }
 
-    /// Returns whether the last number awaits its response, and the next head isn't read before that response.
+    /// Returns whether the last number awaits its response and the next head isn't read before that response.
     pub fn last_holds_next_head(&self) -> bool
         ensures { result ≡ last_holds_next_head self.now.requests }
     {
@@ -186,8 +188,8 @@ impl Pending {
         }
     }
 
-    /// If `closes` holds, makes the response to the last number say, under `Standard`, that the connection closes after
-    /// it. Otherwise, or if that number doesn't await its response, nothing changes.
+    /// Makes the response to the last number say, under `Standard`, that the connection closes after it, if `closes` is
+    /// true. Otherwise, or if that number doesn't await its response, nothing changes.
     pub fn close_last(&mut self, closes: bool)
         ensures turns { self.new.turns ≡ self.old.turns }
         ensures requests { self.new.requests ≡ closing_if_asked closes self.old.requests }
@@ -214,7 +216,8 @@ impl Pending {
         number == self.turns.first_unfinished()
     }
 
-    /// If this number awaits its response and its request is owed a 100, sends the 100. Afterwards none is owed.
+    /// Sends the 100 that this number's request is owed, if there is one and the number awaits its response. Afterwards
+    /// none is owed. A fault of the writer isn't reported.
     pub fn send_continue<W: WriteDevice>(
         &mut self,
         alloc: Global,
@@ -240,8 +243,9 @@ impl Pending {
         }
     }
 
-    /// Upgrades the connection to this protocol, if this number awaits its response. The stream of the upgrade reads
-    /// what is left of the request's body, or under `Standard` all bytes after the body.
+    /// Upgrades the connection to this protocol, if this number awaits its response. The upgraded stream reads what is
+    /// left of the request's body, or, under `Standard`, all bytes after the body. A fault of the writer isn't
+    /// reported.
     pub fn upgrade<W: WriteDevice, D: Drop>(
         &mut self,
         alloc: Global,
@@ -255,7 +259,7 @@ impl Pending {
         ensures requests { (w : OpenRequest UnreadBody) → WaitsAt self.old.requests number w
             → self.new.requests ≡ slice_set self.old.requests number
             (Some (Unfinished.Upgraded (stream_body w.by_standard w.body))) }
-        // Holds whatever the data are.
+        // Holds whatever the data is.
         ensures sends { (w : OpenRequest UnreadBody) → WaitsAt self.old.requests number w
             → ((content : Feed) → SendsQuietlyOn outlet.old outlet.new
             (upgrade_text (record { answer = response.answer; content = content }) protocol.now
@@ -276,7 +280,8 @@ impl Pending {
     }
 
     /// Reads the body that is kept for this number until the buffer is full or no more bytes follow, and returns the
-    /// count of bytes read, which is 0 if no body is kept. Fails with the body's fault if it comes before any byte.
+    /// number of bytes read, which is 0 if no body is kept. Fails with the body's fault if it comes before the first
+    /// byte; a later fault is reported by the next call.
     pub fn fill<R: ReadDevice>(
         &mut self,
         source: &mut Source<R>,
@@ -328,8 +333,8 @@ impl Pending {
         }
     }
 
-    /// If bytes can be written under this number, removes and returns what is kept of it. Otherwise returns `None`, and
-    /// nothing changes.
+    /// If bytes can be written under this number, removes and returns what is kept under it. Otherwise returns `None`,
+    /// and nothing changes.
     pub fn close(&mut self, number: u64) -> Option<Unfinished>
         ensures some { IfSome result (λ u. (slice_get self.old.requests number ≡ Some (Some u))
             × (is_writable (Some (Some u)) ≡ true)
@@ -358,7 +363,7 @@ impl Pending {
     }
 
     /// Finishes a held number and the numbers directly after it for which texts were left, and sends these texts. A
-    /// fault of the writer in these texts isn't reported.
+    /// fault of the writer isn't reported.
     pub fn pass<W: WriteDevice>(&mut self, outlet: &mut Outlet<W>, number: u64)
         ensures passes { (front rest : List Mark)
             → self.old.turns.marks ≡ front ++ (Held ∷ rest)
@@ -384,7 +389,7 @@ impl Pending {
 
     /// Leaves a text for an open number. If the number's turn has come, sends the text, finishes the number, and does
     /// the same for the numbers directly after it for which texts were left. Otherwise the text waits for the number's
-    /// turn. A fault of the writer in these texts isn't reported.
+    /// turn. A fault of the writer isn't reported.
     pub fn leave<W: WriteDevice>(&mut self, outlet: &mut Outlet<W>, number: u64, text: Vec<u8>)
         ensures leaves { (front rest : List Mark)
             → self.old.turns.marks ≡ front ++ (Open ∷ rest)
@@ -425,8 +430,9 @@ impl<W: WriteDevice> RefusalPlace<Outlet<W>> for Pending {
     }
 }
 
-// Reads the body of a request until the buffer is full or no more bytes follow, and returns the count of bytes read,
-// which is 0 if no body is kept. Fails with the body's fault if it comes before any byte.
+// Reads the body of a request until the buffer is full or no more bytes follow, and returns the number of bytes read,
+// which is 0 if no body is kept. Fails with the body's fault if it comes before the first byte; a later fault is
+// reported by the next call.
 fn fill_from<R: ReadDevice>(
     unfinished: &mut Unfinished,
     source: &mut Source<R>,
@@ -451,7 +457,7 @@ fn fill_from<R: ReadDevice>(
     }
 }
 
-// Gives up the body that was kept of a request that is finished, if any.
+/// Gives up the body that is kept for a finished request, if any.
 pub(crate) fn close_body<R: ReadDevice>(finished: Unfinished, source: &mut Source<R>)
     ensures gives_up { GivesUpIfKept (kept_body (Some finished)) source.old source.new }
 {

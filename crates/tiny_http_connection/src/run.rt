@@ -14,15 +14,15 @@ use tiny_http_io::source::Source;
 pub struct Record<R: ReadDevice, W: WriteDevice> {
     /// The reply to each step.
     pub replies: Vec<Reply>,
-    /// The reader, with the bytes that are held. If the last body was neither read to its end nor given up, the rest of
-    /// that body comes next in it; otherwise, while requests may follow, the next head does.
+    /// The reader, with the bytes held in its buffer. If the last body was neither read to its end nor given up, the
+    /// rest of that body comes next; otherwise, if requests may still follow, the next head does.
     pub source: Source<R>,
-    /// The writer, with the bytes that are held. The output is what the writer took, then what is held.
+    /// The writer, with the bytes held in its buffer. The output is what the writer took, followed by what is held.
     pub outlet: Outlet<W>,
 }
 
-/// An error of a run: memory for the replies was refused, and nothing was read or written. A run of no steps doesn't
-/// fail.
+/// An error of a run: memory for the replies couldn't be allocated, and nothing was read or written. A run with no
+/// steps never fails.
 #[derive(Drop)]
 pub struct RunError<R, W> {
     /// The reader, unchanged.
@@ -31,7 +31,7 @@ pub struct RunError<R, W> {
     pub writer: W,
 }
 
-// Returns an empty vector with room for `count` replies. It requests no memory if `count` is 0.
+// Returns an empty vector with room for `count` replies. Requests no memory if `count` is 0.
 fn room_for(alloc: Global, count: usize) -> Result<Vec<Reply>, AllocError>
     ensures items { IfOk result (λ v. v.items ≡ []) }
     ensures len { IfOk result (λ v. vec_len v ≡ 0) }
@@ -44,13 +44,16 @@ fn room_for(alloc: Global, count: usize) -> Result<Vec<Reply>, AllocError>
     Vec::with_capacity(alloc, count)
 }
 
-/// Runs the steps on a connection under `Lenient`, with one reply per step. If the reader, the writer and the data
-/// state their bytes, the requests that the connection hands out are the first of those that the grammar finds in the
-/// client's bytes. The reads of each body give that body's bytes, and report its end only after them. The output is one
-/// segment for each request or refused head, in order, up to the first that isn't finished or that a fault cuts short.
-/// If the writer failed, the output is a prefix of these segments.
+/// Runs the steps on a connection under `Lenient`, with one reply per step.
 ///
-/// Fails if memory for the replies is refused.
+/// The connection theorem applies if the reader states its bytes; the writer states that it has taken none, has not
+/// ended and can count a failure; and the data of each `Respond` states fewer than 2^63 bytes. The requests that the
+/// connection hands out are then the first of those that the grammar finds in the client's bytes. The reads of each
+/// body give that body's bytes, and report its end only after them. The output is one segment for each request or
+/// refused head, in order, up to the first that isn't finished or that a fault cuts short. If the writer failed, the
+/// output is a prefix of these segments.
+///
+/// Fails if memory for the replies can't be allocated.
 pub fn run<R: ReadDevice + Drop, W: WriteDevice + Drop, D: ReadDevice + Drop>(
     alloc: Global,
     reader: R,
@@ -68,13 +71,16 @@ pub fn run<R: ReadDevice + Drop, W: WriteDevice + Drop, D: ReadDevice + Drop>(
     run_with(alloc, Profile::Lenient, reader, writer, steps)
 }
 
-/// Runs the steps on a connection under this profile, with one reply per step. If the reader, the writer and the data
-/// state their bytes, the requests that the connection hands out are the first of those that the grammar finds in the
-/// client's bytes. The reads of each body give that body's bytes, and report its end only after them. The output is one
-/// segment for each request or refused head, in order, up to the first that isn't finished or that a fault cuts short.
-/// If the writer failed, the output is a prefix of these segments.
+/// Runs the steps on a connection under this profile, with one reply per step.
 ///
-/// Fails if memory for the replies is refused.
+/// The connection theorem applies if the reader states its bytes; the writer states that it has taken none, has not
+/// ended and can count a failure; and the data of each `Respond` states fewer than 2^63 bytes. The requests that the
+/// connection hands out are then the first of those that the grammar finds in the client's bytes. The reads of each
+/// body give that body's bytes, and report its end only after them. The output is one segment for each request or
+/// refused head, in order, up to the first that isn't finished or that a fault cuts short. If the writer failed, the
+/// output is a prefix of these segments.
+///
+/// Fails if memory for the replies can't be allocated.
 pub fn run_with<R: ReadDevice + Drop, W: WriteDevice + Drop, D: ReadDevice + Drop>(
     alloc: Global,
     profile: Profile,

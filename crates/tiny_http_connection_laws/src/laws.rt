@@ -1,4 +1,5 @@
-//! Consequences of the connection theorem: the theorem in short, and what a client reads.
+//! Consequences of the connection theorem (the contract of `tiny_http_connection::driver::run`): a short form of the
+//! theorem, and what a client reads.
 ghost use Rattle.std.specs.Prelude.{◌≡◌, ◌<◌, ◌≤◌, ◌^◌, ◌+◌, ◌++◌, ◌∷◌, ◌⊎◌, ◌≢◌, length, map, slice_get, ℕ, Bool};
 ghost use Rattle.std.specs.Prelude.{true, false, List, []};
 ghost use Rattle.std.specs.Prelude.{Option, Some, None, IsTrue};
@@ -30,8 +31,8 @@ ghost use Rattle.tiny_http_connection_laws.specs.ClientReads.{IsOutputOf, HaveAn
 use tiny_http_body::body::MOST_SKIPPED;
 use tiny_http_response::response::Response;
 
-/// THE REQUESTS ARE THE PIPELINE'S: those that were handed out are the first of the pipeline in the client's bytes
-/// (which is unique: `one_pipeline`), in its order, each with its position there as its number. None is skipped, added
+/// THE REQUESTS ARE THE PIPELINE'S: those that were handed out are the first requests of the pipeline in the client's
+/// bytes (which is unique: `one_pipeline`), in its order, each numbered by its position there. None is skipped, added
 /// or changed.
 pub fn requests_begin_the_pipeline()
     ensures first { (p : Profile) (feed : Feed) (before after : Sink) (steps : List TimedValue)
@@ -43,7 +44,7 @@ pub fn requests_begin_the_pipeline()
 
 /// THE READS ARE THE BODY'S: the reads of each request give the next bytes of that request's body, one after another.
 /// They report an end or a fault only after the last byte, and only the end or the fault of that body. (If the client's
-/// end cuts a body with a content length, that body has an end under `Lenient` and `Strict`, and a fault under
+/// input ends within a body with a content length, that body has an end under `Lenient` and `Strict`, and a fault under
 /// `Standard`.) After an upgrade under `Standard` the reads give what follows the request.
 pub fn reads_give_the_body()
     ensures next { (p : Profile) (feed : Feed) (before after : Sink) (steps : List TimedValue)
@@ -54,9 +55,9 @@ pub fn reads_give_the_body()
         → ReadsInOrder k r r.body steps replies }
 {}
 
-/// THE OUTPUT IS THE SEGMENTS: what the writer took, then what is held, is a prefix of the segments in the order of
-/// their numbers, each whole up to the first that isn't, after which nothing follows. It is all of these bytes if the
-/// writer did not fail. Each number that was reached has one segment.
+/// THE OUTPUT IS THE SEGMENTS: what the writer took, followed by what is held, is a prefix of the joined segments, and
+/// all of their bytes if the writer did not fail. Each number that was reached has one segment: the bytes that were
+/// made for it. The segments are joined in the order of their numbers, up to and including the first that isn't whole.
 pub fn output_joins_the_segments()
     ensures front { (p : Profile) (feed : Feed) (before after : Sink) (steps : List TimedValue)
         (replies : List ReplyValue) (held out : List ℕ) (ended : Bool) (unread : Option Feed)
@@ -78,7 +79,7 @@ pub fn output_joins_the_segments()
         → (item : Item)
         × (slice_get c.items k ≡ Some item)
         × AreOfOneHead s.item item }
-    // A response that the server didn't make itself is that of a step for its number, on the date of the step.
+    // A response that the server didn't make itself is that of a step for its number, and has that step's date.
     ensures made { (p : Profile) (feed : Feed) (before after : Sink) (steps : List TimedValue)
         (replies : List ReplyValue) (held : List ℕ) (ended : Bool) (unread : Option Feed)
         → (c : IsConversation p feed before steps replies after held ended unread)
@@ -89,9 +90,10 @@ pub fn output_joins_the_segments()
 {}
 
 /// EACH NUMBER IS AS ITS STEPS AND THEIR REPLIES SAY. Each request that was handed out has a number. The number is
-/// finished exactly if a step finished it. Its response is that of the step that answered it, if one did; otherwise it
-/// is the server's, or there is none. Its raw writer or stream has the bytes of its writes, joined. If its head expects
-/// a 100 and a step asked for that, the 100 has the date of the first such step; otherwise there is none.
+/// finished if and only if a step finished it. Its response is that of the step that answered it, if one did; otherwise
+/// it is the server's, or there is none. The bytes written to its raw writer or upgraded stream are those of its
+/// writes, joined. If its head expects a 100 and a step asked for that, the 100 has the date of the first such step;
+/// otherwise there is none. A refused head is answered by the server, and no step does anything for it.
 pub fn numbers_match_their_accounts()
     ensures reached { (p : Profile) (feed : Feed) (before after : Sink) (steps : List TimedValue)
         (replies : List ReplyValue) (held : List ℕ) (ended : Bool) (unread : Option Feed)
@@ -107,11 +109,11 @@ pub fn numbers_match_their_accounts()
         → MatchesAccount k s s.item (account k steps replies) }
 {}
 
-/// STEPS ARE TAKEN IN TURN. A step other than an `Ask` or a read, for a request that was handed out and accepts the
+/// STEPS ARE TAKEN IN TURN. A step other than an `Ask` or a `Read`, for a request that was handed out and accepts the
 /// step, is done or refused, and not put off, once the numbers before it are finished; an `IntoWriter`, a `Drop` and a
-/// `Finish` are even before that. A response, a write, a flush and an upgrade are done only once those numbers are
-/// finished. The reply is `NoSuch` if no request that was handed out accepts the step, and otherwise only to a read. An
-/// `Ask` is put off only while the last request that was handed out isn't finished.
+/// `Finish` are even before that. A `Respond`, a `Write`, a `Flush` and an `Upgrade` are done only once those numbers
+/// are finished. Except for an `Ask`, the reply is `NoSuch` if no request that was handed out accepts the step; if one
+/// does, only a `Read` may get `NoSuch`. An `Ask` is put off only while the last request handed out isn't finished.
 pub fn steps_are_taken_in_turn()
     ensures done { (p : Profile) (feed : Feed) (before after : Sink) (steps later : List TimedValue)
         (replies more : List ReplyValue) (held : List ℕ) (ended : Bool) (unread : Option Feed) (date : HttpDate)
@@ -167,9 +169,10 @@ pub fn steps_are_taken_in_turn()
         × ((account k steps replies).condition ≢ Finished) }
 {}
 
-/// THE END HAS A REASON. If an `Ask` reports the end, every request of the pipeline was handed out, and each refused
-/// head has a number; or a number stops the requests, such as one whose chunked body was given up before its end was
-/// reported; or a step ended them: memory was refused, or a response asked to close the connection.
+/// THE END HAS A REASON. If an `Ask` reports the end, at least one of three things holds: every request of the pipeline
+/// was handed out, and each refused head has a number; no head may be read after one of the numbers, for example
+/// because its chunked body was given up before its end was reported; or a step ended the requests, because memory for
+/// an `Ask` couldn't be allocated or a response asked to close the connection.
 pub fn the_end_has_a_reason()
     ensures reason { (p : Profile) (feed : Feed) (before after : Sink) (steps : List TimedValue)
         (replies : List ReplyValue) (held : List ℕ) (ended : Bool) (unread : Option Feed)
@@ -182,10 +185,11 @@ pub fn the_end_has_a_reason()
 /// THE CLIENT THEOREM, from the contract of `tiny_http_connection::driver::run` alone: a client that knows only the
 /// methods it sent reads the output as one response after another, in the order of the numbers.
 ///
-/// The premise is on the steps. Each `Respond` has a status of 200 or more and readable headers, each `Upgrade` names a
-/// protocol that isn't ASCII and so is refused, and there is no `IntoWriter`. So each number that was reached is a
-/// refused head, or is finished by such a `Respond`, done or refused, by a `Drop` or by a refused `Upgrade`, or isn't
-/// answered yet. Raw writers and upgrades that were done are excluded: their bytes are arbitrary.
+/// The premise is about the steps. Each `Respond` has a status of 200 or more and readable headers
+/// (`response_can_be_read` shows that the other requirements hold), each `Upgrade` names a protocol that isn't ASCII
+/// and so is refused, and there is no `IntoWriter`. So each number that was reached is a refused head, or is finished
+/// by such a `Respond`, done or refused, by a `Drop` or by a refused `Upgrade`, or isn't answered yet. Raw writers and
+/// upgrades that were done are excluded: their bytes are arbitrary.
 ///
 /// A header is readable if its name and its value are ASCII, its name has no white space and no colon, and its value is
 /// trimmed and has no CR LF. Under `Standard` this applies to headers as they are printed, and to the protocols that
@@ -193,20 +197,20 @@ pub fn the_end_has_a_reason()
 /// value. So a value whose first or last byte is replaced isn't trimmed, and isn't readable.
 ///
 /// The client reads the response to a refused head as one to a GET, except that under `Lenient` and `Strict` it reads
-/// the 505 to a HEAD as one to a HEAD. It reads the version, which under `Standard` is 1.1, the status, the headers as
-/// they are printed (with `Server`, `Date` and the header that frames the body, and under `Standard` with `Connection`
-/// and `Upgrade` if they are needed), and the body that is sent. It skips a 100 before the response. After the last
-/// response nothing remains, or an unfinished prefix of the next number's text.
+/// the 505 to a HEAD as one to a HEAD. It reads the version (under `Standard`, 1.1), the status, the headers as they
+/// are printed (with `Server`, `Date` and the header that frames the body, and under `Standard` with `Connection` and
+/// `Upgrade` if they are needed), and the body that is sent. It skips a 100 before the response. After the last
+/// response, either nothing remains or an unfinished prefix of the next number's text does.
 pub fn conversation_is_read()
-    // Even if the writer failed, the bytes that were sent or are held are the responses of the first numbers, and then
-    // what remains.
+    // Even if the writer failed, the bytes that were sent or are held are the responses of the first numbers, followed
+    // by what remains.
     ensures output { (p : Profile) (feed : Feed) (before after : Sink) (steps : List TimedValue)
         (replies : List ReplyValue) (held out : List ℕ) (ended : Bool) (unread : Option Feed)
         → (c : IsConversation p feed before steps replies after held ended unread)
         → AreReadable p steps
         → IsOutputOf after held out
         → ReadsNumbers c.end.reached.slots out }
-    // If the writer's failure count did not rise, these are the responses of all numbers up to the first whose text
+    // If the writer's failure count did not rise, these are the responses of all numbers before the first whose text
     // breaks off or that isn't answered yet.
     ensures whole { (p : Profile) (feed : Feed) (before after : Sink) (steps : List TimedValue)
         (replies : List ReplyValue) (held out : List ℕ) (ended : Bool) (unread : Option Feed)
@@ -228,19 +232,20 @@ pub fn conversation_is_read()
         × ReadsAnswers (methods (sent_texts c.end.reached.slots)) out answers [] }
 {}
 
-/// The constant that the definitions of a request's end take from the code: the maximum number of unread bytes that are
-/// skipped in a body with a content length.
+/// States the constant that the definitions of a request's end take from the code: the maximum number of unread bytes
+/// that are skipped in a body with a content length.
 pub fn size_of_what_is_skipped()
     ensures { MOST_SKIPPED ≡ 65536 }
 {}
 
-/// CLOSE IS THE LAST: under `Standard`, no number follows one whose response says `Connection: close`, in each
-/// conversation, whatever its steps (RFC 9112, section 9.6).
+/// CLOSE IS THE LAST: under `Standard`, in any conversation, whatever its steps, no number follows one whose response
+/// says `Connection: close` (RFC 9112, section 9.6).
 ///
 /// A response says `close` if it is an error response to a refused head, or if that was decided when it was made:
 /// because of the request's head, a response that asked for it, a 100 that is owed, or what is left of the body. A
-/// client that can read the response reads `close` exactly if the response says it: as an element of `Connection`,
-/// which the header list of a response never holds. So the client knows from the response that no further one follows.
+/// client that can read the response reads `close`, as an element of `Connection`, if and only if the response says it:
+/// the header list of a `Response` never contains a `Connection`. So the client knows from the response that no further
+/// one follows.
 pub fn close_is_the_last()
     ensures none { (feed : Feed) (before after : Sink) (steps : List TimedValue) (replies : List ReplyValue)
         (held : List ℕ) (ended : Bool) (unread : Option Feed)
@@ -268,18 +273,18 @@ pub fn steps_can_be_read()
         → c.end.failure ≡ None }
 {}
 
-/// The client theorem with its premise on the numbers that were reached. It is stronger than `conversation_is_read`:
-/// steps with the reply `NotYet` or `NoSuch` are unrestricted.
+/// The client theorem with its premise about the numbers that were reached. It is stronger than `conversation_is_read`:
+/// steps with the reply `NotYet`, `NoSuch` or `Refused` are unrestricted.
 pub fn slots_are_read()
-    // Even if the writer failed, the bytes that were sent or are held are the responses of the first numbers, and then
-    // what remains.
+    // Even if the writer failed, the bytes that were sent or are held are the responses of the first numbers, followed
+    // by what remains.
     ensures output { (p : Profile) (feed : Feed) (before after : Sink) (steps : List TimedValue)
         (replies : List ReplyValue) (held out : List ℕ) (ended : Bool) (unread : Option Feed)
         → (c : IsConversation p feed before steps replies after held ended unread)
         → AllByRecursion (CanBeReadAt p) c.end.reached.slots
         → IsOutputOf after held out
         → ReadsNumbers c.end.reached.slots out }
-    // If the writer did not fail, these are the responses of all numbers up to the first whose text breaks off or that
+    // If the writer did not fail, these are the responses of all numbers before the first whose text breaks off or that
     // isn't answered yet.
     ensures whole { (p : Profile) (feed : Feed) (before after : Sink) (steps : List TimedValue)
         (replies : List ReplyValue) (held out : List ℕ) (ended : Bool) (unread : Option Feed)

@@ -1,5 +1,6 @@
-//! Consequences of the connection theorem, as laws of the definitions: the theorem in short, and what a client reads.
-//! The crate is built on `tiny_http_connection` and `tiny_http_client`.
+//! Consequences of the connection theorem (the contract of `tiny_http_connection::driver::run`), as laws of the
+//! definitions: a short form of the theorem, and what a client reads. The crate builds on `tiny_http_connection` and
+//! `tiny_http_client`.
 #![tactic(auto)]
 
 pub mod laws;

@@ -6,14 +6,14 @@ ghost use Rattle.tiny_http_files.specs.Paths.{below_folder, is_unsafe_byte, is_u
 
 use std::alloc::{AllocError, Global};
 
-// Returns whether the text has a byte that isn't allowed in a file name.
+// Returns whether the text contains a NUL or a backslash, which not every system allows in file names.
 fn has_unsafe_byte(text: &[u8]) -> bool
     ensures { result ≡ list_any is_unsafe_byte text.now }
 {
     text.iter().any(|b| *b == 0 || *b == b'\\')
 }
 
-// Returns whether a part of a path may lead out of the folder, or isn't a file name.
+// Returns whether a part of a path is `.` or `..`, or contains a byte that not every system allows in file names.
 fn is_unsafe_part(part: &str) -> bool
     ensures { result ≡ is_unsafe_part part.now }
 {
@@ -24,8 +24,8 @@ fn is_unsafe_part(part: &str) -> bool
 /// lead out of the folder, or `.`, or contains a NUL or a backslash, which not every system allows in file names.
 ///
 /// `path` must be the request's path (`Request::path`), percent-decoded, so that escaped slashes and dots count.
-/// Symbolic links may also lead out of the folder; if the folder may have them, compare the real path
-/// (`fs::canonicalize`).
+/// Symbolic links may also lead out of the folder; if the folder may contain them, check that the real path
+/// (`fs::canonicalize`) is within it.
 pub fn is_unsafe(path: &str) -> bool
     ensures { result ≡ list_any is_unsafe_part (parts slash path.now) }
 {
@@ -39,7 +39,7 @@ pub fn is_unsafe(path: &str) -> bool
 
 /// Returns the path of a file in a folder: `folder` and `path` joined as they are. `path` must be the request's path
 /// (`Request::path`), percent-decoded. Returns `None` if `path` doesn't begin with a slash, or is unsafe (`is_unsafe`).
-/// Whether the file exists, or is a link, isn't checked. Fails if memory is refused.
+/// Whether the file exists, or is a link, isn't checked. Fails if memory can't be allocated.
 pub fn below_folder(alloc: Global, folder: &str, path: &str) -> Result<Option<String>, AllocError>
     ensures { IfOk result (λ found. option_map string_bytes found ≡ below_folder folder.now path.now) }
 {

@@ -23,13 +23,13 @@ use tiny_http_text::bytes::{are_ascii, cut, has_no_blank, is, is_trimmed, trim};
 use tiny_http_text::copies::owned;
 use tiny_http_text::number::Numeral;
 
-/// The error returned when a text is parsed or a header is made from texts.
+/// The error returned when a text can't be parsed or a header can't be made from texts.
 #[derive(Clone, Copy, Debug, PartialEq, Eq, Error)]
 pub enum ParseError {
     /// The text doesn't match the grammar.
     #[error("not of the grammar")]
     Refused,
-    /// Memory for the result was refused.
+    /// Memory for the result couldn't be allocated.
     #[error("out of memory")]
     Memory,
 }
@@ -214,7 +214,8 @@ impl From<u32> for StatusCode {
     }
 }
 
-/// An HTTP version: its major and minor numbers, ordered by the major number first (RFC 9110, section 2.5).
+/// An HTTP version, as its major and minor numbers (RFC 9110, section 2.5). Versions are ordered by major number, then
+/// by minor number.
 #[derive(Clone, Copy, Debug, PartialEq, Eq, PartialOrd, Ord)]
 pub struct HTTPVersion(pub u8, pub u8);
 
@@ -297,7 +298,7 @@ impl HeaderField {
     }
 
     /// Parses a name: any ASCII text without white space (bytes 9 to 13 and 32), even an empty one. Fails with
-    /// `Refused` for any other text, and only then; with `Memory` if memory for a copy is refused.
+    /// `Refused` for any other text, and only then; with `Memory` if memory for a copy can't be allocated.
     pub fn from_str(alloc: Global, text: &str) -> Result<HeaderField, ParseError>
         ensures ok { IfOk result (λ f. (f ≡ text.now) × IsWord text.now) }
         ensures refused { IsErrOf result ParseError.Refused ↔ ¬ (IsWord text.now) }
@@ -310,7 +311,7 @@ impl HeaderField {
         Ok(HeaderField { text })
     }
 
-    /// Makes a name from any ASCII text. It is for the crates that build on this one.
+    /// Makes a name from any ASCII text. Intended for the crates that build on this one.
     pub fn from_text(text: AsciiString) -> HeaderField
         ensures { result ≡ text }
     {
@@ -324,7 +325,7 @@ impl HeaderField {
         self.text.as_ascii()
     }
 
-    /// Copies the name. Fails if memory is refused.
+    /// Copies the name. Fails if memory can't be allocated.
     pub fn try_clone(&self) -> Result<HeaderField, AllocError>
         ensures { IfOk result (λ f. f ≡ self.now) }
     {
@@ -398,7 +399,8 @@ impl Method {
     ghost use Rattle.tiny_http_head.specs.Common.{method_text};
 
     /// Parses a method: one of the nine names in this exact case, or any other ASCII text, even an empty one. Fails
-    /// with `Refused` for a text that isn't ASCII, and only then; with `Memory` if memory for a copy is refused.
+    /// with `Refused` for a text that isn't ASCII, and only then; with `Memory` if memory for a copy can't be
+    /// allocated.
     pub fn from_str(alloc: Global, text: &str) -> Result<Method, ParseError>
         ensures ok { IfOk result (λ m. (m ≡ method_of text.now) × AreAscii text.now) }
         ensures refused { IsErrOf result ParseError.Refused ↔ ¬ (AreAscii text.now) }
@@ -411,7 +413,7 @@ impl Method {
         Ok(method)
     }
 
-    /// Copies the method. Fails if memory is refused.
+    /// Copies the method. Fails if memory can't be allocated.
     pub fn try_clone(&self) -> Result<Method, AllocError>
         ensures { IfOk result (λ m. m ≡ self.now) }
     {
@@ -475,11 +477,11 @@ impl Header {
     ghost use Rattle.tiny_http_head.specs.Heads.{IsHeader};
     ghost use Rattle.tiny_http_head.specs.HeaderTexts.{AreHeaderTexts, header_of};
 
-    /// Makes a header from a name and a value, unchanged. Its recipient parses that name and value and nothing else,
-    /// even if they contain text from a client. The name must be a token (RFC 9110, section 5.6.2): one or more ASCII
-    /// letters, digits or bytes of ``!#$%&'*+-.^_`|~``. The value must consist of visible ASCII bytes, spaces and tabs,
-    /// without a space or tab at its ends; it may be empty (RFC 9110, section 5.5). Fails with `Refused` for any other
-    /// name or value, such as one with CR, LF or NUL, and only then; with `Memory` if memory is refused.
+    /// Makes a header from a name and a value, unchanged. A recipient parses exactly this name and value, and nothing
+    /// else, even if they contain text from a client. The name must be a token (RFC 9110, section 5.6.2): one or more
+    /// ASCII letters, digits or bytes of ``!#$%&'*+-.^_`|~``. The value must consist of visible ASCII bytes, spaces and
+    /// tabs, without a space or tab at its ends; it may be empty (RFC 9110, section 5.5). Fails with `Refused` for any
+    /// other name or value, such as one with CR, LF or NUL, and only then; with `Memory` if memory can't be allocated.
     #[tactic(auto, using(crate::proofs::HeaderTextsLemmas::token_ascii))]
     pub fn new(alloc: Global, name: &str, value: &str) -> Result<Header, ParseError>
         ensures ok { IfOk result (λ h. (h ≡ header_of name.now value.now) × AreHeaderTexts name.now value.now) }
@@ -512,7 +514,7 @@ impl Header {
     /// Parses a field line without its CR LF: the name is the text before the first colon, and the value is the text
     /// after it, without white space (bytes 9 to 13 and 32) at its ends (RFC 9112, section 5). Fails with `Refused` if
     /// there is no colon, if the name contains white space, or if a byte isn't ASCII, and only then; with `Memory` if
-    /// memory is refused.
+    /// memory can't be allocated.
     pub fn from_str(alloc: Global, text: &str) -> Result<Header, ParseError>
         ensures ok { IfOk result (λ h. IsHeader text.now h) }
         ensures refused { IsErrOf result ParseError.Refused ↔ ((h : Header) → IsHeader text.now h → ⊥) }
@@ -527,7 +529,7 @@ impl Header {
         }
     }
 
-    /// Copies the header. Fails if memory is refused.
+    /// Copies the header. Fails if memory can't be allocated.
     pub fn try_clone(&self) -> Result<Header, AllocError>
         ensures { IfOk result (λ h. h ≡ self.now) }
     {
@@ -544,7 +546,7 @@ impl From<Header> for io::Error {
 
     ghost from_gives = { λ _ fault. error_kind fault ≡ OutOfMemory };
 
-    /// Returns `OutOfMemory`, since only a call that was refused memory for a header hands the header back. The header
+    /// Returns `OutOfMemory`, since a call hands a header back only if memory for it couldn't be allocated. The header
     /// is dropped.
     fn from(_header: Header) -> io::Error {
         ErrorKind::OutOfMemory.into()
@@ -575,7 +577,7 @@ fn is_field_value(text: &[u8]) -> bool
 }
 
 /// Returns the method that an ASCII text names: one of the nine named variants if the text is its name in this exact
-/// case, and otherwise `NonStandard`. Fails if memory for a copy is refused.
+/// case, and otherwise `NonStandard`. Fails if memory for a copy can't be allocated.
 pub fn method_of(alloc: Global, text: &[u8]) -> Result<Method, AllocError>
     requires { AreAscii text.now }
     ensures { IfOk result (λ m. m ≡ method_of text.now) }
@@ -612,7 +614,7 @@ pub fn method_of(alloc: Global, text: &[u8]) -> Result<Method, AllocError>
 
 /// Parses a field line: the name is the text before the first colon, and the value is the text after it, without white
 /// space (bytes 9 to 13 and 32) at its ends (RFC 9112, section 5). Returns `None` if there is no colon, or if the name
-/// contains white space. Fails if the text is a field line and memory is refused.
+/// contains white space. Fails if the text is a field line and memory can't be allocated.
 pub fn parse_header_line(alloc: Global, text: &[u8]) -> Result<Option<Header>, AllocError>
     requires { AreAscii text.now }
     ensures value { IfOk result (λ found. found ≡ header_line text.now) }

@@ -7,8 +7,8 @@ ghost use Rattle.tiny_http_head.specs.ContentLength.{one_length, lengths_after};
 use crate::blanks::Blanks;
 use crate::common::Header;
 
-/// The error that `one_length` returns if an element of `Content-Length` isn't a number below 2^64 or two elements
-/// differ.
+/// The error that `one_length` returns if an element of `Content-Length` isn't a number below 2^64, or if two elements
+/// give different lengths.
 #[derive(Clone, Copy, Debug, PartialEq, Eq)]
 pub struct InvalidLength;
 
@@ -80,8 +80,9 @@ fn lengths_in(
 /// Returns the one length that all `Content-Length` fields give, or `None` if there is no such field (RFC 9110, section
 /// 8.6; RFC 9112, section 6.3).
 ///
-/// Each value is a list of numbers as `number_in` parses them, with `blanks` stripped around each. Fails if an element
-/// isn't such a number, for example if it is empty, or if two elements differ.
+/// Each value is a comma-separated list of numbers as `number_in` parses them, with `blanks` stripped from both ends of
+/// each. Fails if an element isn't such a number (for example, if it is empty), or if two elements give different
+/// lengths.
 #[inline(always)]
 pub fn one_length(headers: &[Header], blanks: Blanks) -> Result<Option<usize>, InvalidLength>
     ensures { result ≡ one_length (elements_by_name (is_left_out blanks) (codes "Content-Length") headers.now) }

@@ -52,7 +52,7 @@ fn split_request_line(text: &[u8]) -> Option<(&[u8], &[u8], &[u8])>
 /// Parses a request line (RFC 9112, section 3). The text is stripped of white space (bytes 9 to 13 and 32) at its ends
 /// and split at each single space into the method, the request target, which may be empty, and the version; further
 /// parts are ignored. Returns `None` if there are fewer than three parts, or if the version isn't `HTTP/0.9`,
-/// `HTTP/1.0`, `HTTP/1.1`, `HTTP/2.0` or `HTTP/3.0`. Fails if the text is a request line and memory is refused.
+/// `HTTP/1.0`, `HTTP/1.1`, `HTTP/2.0` or `HTTP/3.0`. Fails if the text is a request line and memory can't be allocated.
 pub fn parse_request_line(
     alloc: Global,
     text: &[u8],

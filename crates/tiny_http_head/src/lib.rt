@@ -1,6 +1,6 @@
-//! The parts of a head (RFC 9110 and RFC 9112): status codes, versions, methods and header fields, the grammar of their
-//! lines, and the content length. The crate depends on `tiny_http_text`, `httparse`, `thiserror` and the standard
-//! library. `tiny_http_wire` re-exports `common`, `grammar` and `target`.
+//! The parts of a head (RFC 9110 and RFC 9112): status codes, versions, methods, request targets and header fields, the
+//! grammar of the lines, and the content length. The crate depends on `tiny_http_text`, `httparse`, `thiserror` and the
+//! standard library. `tiny_http_wire` re-exports `common`, `grammar` and `target`.
 #![tactic(auto)]
 
 pub mod blanks;

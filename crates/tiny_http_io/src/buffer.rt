@@ -111,8 +111,8 @@ impl Buffer {
         self.end = 0;
     }
 
-    /// Discards the buffered bytes, reads once from the device into the buffer, and returns how many bytes came: 0 only
-    /// at the device's end. A call that fails leaves the buffer empty.
+    /// Discards the buffered bytes, reads once from the device into the buffer, and returns the number of bytes read,
+    /// which is 0 only at the device's end. A call that fails leaves the buffer empty.
     pub fn read_from<R: ReadDevice>(&mut self, device: &mut R) -> Result<usize, io::Error>
         ensures count { IfOk result (λ n. n ≡ length self.new) }
         ensures bytes { OnOk result (R.feed device.old ≡ prepended self.new (R.feed device.new)) }

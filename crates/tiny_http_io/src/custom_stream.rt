@@ -105,7 +105,7 @@ impl<R: ReadDevice, W> Read for CustomStream<R, W> {
 }
 
 // `contents` is left unstated: a writer may take some bytes and then fail, or return `Ok` after its end and take none,
-// and std's clauses on known bytes allow neither. The clauses say what the writer itself states.
+// and std's clauses on known bytes allow neither. The clauses below say what the writer itself states.
 impl<R, W: WriteDevice> Write for CustomStream<R, W> {
     ghost use Rattle.std.specs.Io.{WritesAtMost};
 
@@ -127,8 +127,8 @@ impl<R, W: WriteDevice> Write for CustomStream<R, W> {
         self.flush_out()
     }
 
-    /// Writes all bytes. It stops at the first fault and reports it, even one of kind `Interrupted`: the writer may
-    /// have ended with that fault, and a retry would then return `Ok`.
+    /// Writes all bytes. Stops at the first fault and reports it, even one of kind `Interrupted`: the writer may have
+    /// ended with that fault, and a retry would then return `Ok`.
     fn write_all(&mut self, buf: &[u8]) -> io::Result<()>
         ensures puts { Puts (W.sink (custom_writer self.old)) (W.sink (custom_writer self.new)) result buf.now }
         ensures reader { custom_reader self.new ≡ custom_reader self.old }

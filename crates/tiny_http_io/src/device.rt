@@ -1,4 +1,6 @@
-//! The device traits: readers that may state the bytes still to come, and writers that count their failures.
+//! The device traits: readers that may state the bytes still to come, readers that can read ahead, and writers that
+//! count their failures; also devices in memory, wrappers for streams and for tests, and functions that read from and
+//! write to devices.
 ghost use Rattle.std.specs.Prelude.{◌≡◌, ◌<◌, ◌≤◌, ◌+◌, ℕ, min, false, [], length, take, drop, Option, None, Some, Ok};
 ghost use Rattle.std.specs.Prelude.{IfOk, IfErr, OnOk, OnErr, vec_len, flat_map};
 ghost use Rattle.std.specs.IoError.{error_kind};
@@ -45,8 +47,8 @@ pub struct Ahead<'a> {
     pub bytes: &'a [u8],
     /// How many more bytes the reader can store now.
     pub room: usize,
-    /// Whether the last read found that no more had come: it returned fewer bytes than it asked for, but not none, or
-    /// it failed.
+    /// Whether the last read found that no more bytes had arrived: it returned at least one byte but fewer than it
+    /// asked for, or it failed.
     pub is_drained: bool,
 }
 
@@ -56,13 +58,13 @@ pub trait ReadAheadDevice: ReadDevice {
     fn ahead(&self) -> Ahead<'_>
         ensures front { (rest : Option Feed) × (Self.feed self.now ≡ prepended result.bytes.now rest) };
 
-    /// Reads ahead once, waiting as briefly as it can, and returns how many bytes came: 0 at the end, or if there is no
-    /// room. Fails with `WouldBlock` if none has come. The feed is unchanged, also if it fails.
+    /// Reads ahead once, waiting as briefly as it can, and returns the number of bytes read: 0 at the end, or if there
+    /// is no room. Fails with `WouldBlock` if no bytes have arrived. The feed is unchanged, even if the call fails.
     fn read_ahead(&mut self) -> Result<usize, io::Error>
         ensures feed { Self.feed self.new ≡ Self.feed self.old }
         ensures stop_count { Self.stop_count self.new ≤ Self.stop_count self.old + 1 };
 
-    /// Frees the memory of the bytes that are read ahead, if none is stored.
+    /// Frees the memory for bytes that are read ahead, if no such bytes are stored.
     fn release_ahead(&mut self)
         ensures feed { Self.feed self.new ≡ Self.feed self.old }
         ensures stop_count { Self.stop_count self.new ≡ Self.stop_count self.old };
@@ -74,7 +76,7 @@ pub trait WriteDevice {
     /// failures; and whether it has ended.
     ghost sink: { Self → Sink };
 
-    /// Returns how often a write or a flush has failed, at most 2^64 - 1.
+    /// Returns how many writes and flushes have failed, at most 2^64 - 1.
     fn failures(&self) -> u64
         ensures count { result ≡ (sink self.now).failures }
         // A law of every writer, stated here for want of a better place: the bytes that a writer has sent on are a
@@ -167,7 +169,7 @@ impl ReadDevice for Canned {
 impl ReadDevice for Cursor<Vec<u8>> {
     ghost feed = { λ c. Some (whole_feed (cursor_bytes c)) };
 
-    /// Copies the next bytes. It never fails.
+    /// Copies the next bytes. Never fails.
     fn read_in(&mut self, buf: &mut [u8]) -> Result<usize, io::Error> {
         self.read(buf)
     }
@@ -310,7 +312,7 @@ impl Budget {
     ghost use Rattle.tiny_http_io.specs.Budget.{budget_bytes, budget_room, budget_kind, budget_sink};
 
     /// Makes a writer that takes `room` bytes and then fails with an error of this kind. A write fails with
-    /// `OutOfMemory` if memory for the bytes is refused.
+    /// `OutOfMemory` if memory for the bytes can't be allocated.
     pub fn new(alloc: Global, room: usize, kind: ErrorKind) -> Budget
         ensures sink { budget_sink result
             ≡ record { taken = Some []; sent = []; failures = 0; last_kind = None; has_ended = false } }
@@ -320,7 +322,7 @@ impl Budget {
         Budget::from_vec(Vec::new(alloc), room, kind)
     }
 
-    /// Makes a writer as `new` does, but one that has already taken these bytes. They don't count towards `room`.
+    /// Makes a writer as `new` does, but one that has already taken these bytes. They don't count toward `room`.
     pub fn from_vec(bytes: Vec<u8>, room: usize, kind: ErrorKind) -> Budget
         ensures sink { budget_sink result ≡ record
             { taken = Some bytes.items; sent = bytes.items; failures = 0; last_kind = None; has_ended = false } }
@@ -374,7 +376,7 @@ impl WriteDevice for Budget {
     }
 
     /// Takes as many bytes as there is room for. A nonempty write fails, and takes none, if there is no room or memory
-    /// is refused.
+    /// can't be allocated.
     fn write_out(&mut self, buf: &[u8]) -> Result<usize, io::Error>
         ensures puts { PutsFront (budget_sink self.old) (budget_sink self.new) result buf.now }
         ensures count { IfOk result (λ n. n ≡ min (length buf.now) (budget_room self.old)) }
@@ -468,7 +470,7 @@ pub fn put_all<W: WriteDevice>(writer: &mut W, pieces: &[&[u8]]) -> Result<(), i
     Ok(())
 }
 
-/// A reader that returns another reader's bytes in small pieces. It is for testing code that reads.
+/// A reader that returns another reader's bytes in small pieces. Intended for testing code that reads.
 #[derive(Drop)]
 pub struct ByPieces<R> {
     inner: R,
@@ -517,8 +519,8 @@ impl<R: ReadDevice> ReadDevice for ByPieces<R> {
 
 /// A reader or writer with a fault injected into one chosen call, or into none. That call doesn't reach the inner
 /// stream; every other call does, except a read into an empty buffer, and may fail as the inner stream does. A
-/// `FailsAt` is a `ReadDevice` over a `ReadDevice`, and a `Write` over a `Write`. It is for testing code that reads and
-/// writes.
+/// `FailsAt` is a `ReadDevice` over a `ReadDevice`, and a `Write` over a `Write`. Intended for testing code that reads
+/// and writes.
 #[derive(Drop)]
 pub struct FailsAt<S> {
     inner: S,

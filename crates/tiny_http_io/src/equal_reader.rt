@@ -53,7 +53,7 @@ impl<R: ReadDevice + Drop> EqualReader<R> {
     }
 
     /// Reads and discards the rest of this reader's bytes, and returns the inner reader. The inner reader's next byte
-    /// is the first one after them, unless the inner reader stopped before that byte. An end or a fault that is met
+    /// is the first one after them, unless the inner reader stopped before that byte. An end or a fault encountered
     /// here isn't reported.
     pub fn finish(self) -> R
         ensures feed { R.feed result ≡ option_map (feed_behind (equal_left self)) (R.feed (equal_inner self)) }

@@ -1,4 +1,4 @@
-//! A reader that stays at its end.
+//! A reader that keeps reporting its end once it has reported it.
 ghost use Rattle.std.specs.Prelude.{◌≡◌, ◌<◌, ◌≤◌, length, take, Some, None, Ok, IfOk, IfErr, OnErr, IsSome};
 ghost use Rattle.std.specs.IoError.{error_kind};
 ghost use Rattle.tiny_http_io.specs.Device.{prepended, StopsBy, Tells};

@@ -1,4 +1,5 @@
-//! A reader and the bytes buffered from it: the input of a `Source`, as a type whose fields contracts may name.
+//! A reader and the bytes buffered from it: the input of a `Source`. It is a type of its own so that contracts can name
+//! its fields.
 ghost use Rattle.std.specs.Prelude.{◌≡◌, ◌≢◌, true, false, ◌+◌, ◌-◌, ◌^◌, ◌<◌, ◌≤◌, ◌⊎◌, min, [], ◌∷◌, ◌++◌};
 ghost use Rattle.std.specs.Prelude.{length, take, drop, Option, None, Some, Ok, Err, IfOk, IfErr, OnOk, OnErr};
 ghost use Rattle.std.specs.Prelude.{IsSome, IfSome, IfNone, IsTrue};
@@ -183,7 +184,7 @@ impl<R: ReadDevice> Input<R> {
             → input_reader self.new ≡ input_reader self.old }
         ensures full { IfSome left (λ n. input_skip self.old + n ≤ length (input_held self.old)
             → input_reader self.new ≡ input_reader self.old) }
-        // Memory is needed only for a line that isn't whole in the buffer.
+        // Memory is needed only for a line that isn't entirely in the buffer.
         ensures memory { result ≡ Err LineFault.Memory
             → has_crlf (drop (input_skip self.old) (input_held self.old)) ≡ false }
         ensures lazy { OnOk result (input_stop self.new ≡ input_stop self.old) }
@@ -242,7 +243,7 @@ impl<R: ReadDevice> Input<R> {
     }
 
     // Takes a line of n buffered bytes, and consumes the CR LF after it. Fails with `Memory`, and changes nothing, if
-    // memory is refused.
+    // memory can't be allocated.
     fn take_line(&mut self, alloc: Global, n: usize) -> Result<Vec<u8>, LineFault>
         requires { n + 2 ≤ length self.old.held }
         ensures text { IfOk result (λ text. text.items ≡ take n self.old.held) }
@@ -364,7 +365,7 @@ impl<R: ReadDevice> Input<R> {
     }
 
     /// Takes exactly n bytes. If fewer are left, takes them all and returns `None`, and the input is over. Fails, and
-    /// changes nothing, if memory is refused.
+    /// changes nothing, if memory can't be allocated.
     pub fn take_exactly(&mut self, alloc: Global, n: usize) -> Result<Option<Vec<u8>>, AllocError>
         ensures takes { IfOk result
             (λ body. TakesExactly (λ v. v.items) n (input_feed R.feed self.old) (input_feed R.feed self.new) body) }
@@ -476,7 +477,7 @@ impl<R: ReadDevice> Input<R> {
 
     /// Reads some bytes and returns how many: 0 at the end, or if `buf` is empty. After the last byte each read into a
     /// nonempty `buf` reports how the input stopped. If no byte is buffered or to be skipped and the input hasn't
-    /// stopped, a read into 1024 bytes or more goes straight to the reader.
+    /// stopped, a read into a `buf` of 1024 bytes or more goes straight to the reader.
     pub fn read(&mut self, buf: &mut [u8]) -> Result<usize, io::Error>
         ensures bound { IfOk result (λ n. n ≤ length buf.new) }
         ensures bytes { IfOk result
@@ -540,7 +541,7 @@ impl<R: ReadAheadDevice> Input<R> {
         self.inner.read_ahead()
     }
 
-    /// Has the reader free the memory of the bytes that are read ahead, if none is stored.
+    /// Has the reader free the memory for bytes that are read ahead, if no such bytes are stored.
     pub fn release_ahead(&mut self)
         ensures feed { input_feed R.feed self.new ≡ input_feed R.feed self.old }
         ensures rest { self.new ≡ record self.old { inner = input_reader self.new } }

@@ -1,5 +1,5 @@
-//! Reading and writing: the two device traits, readers and writers for tests and simple programs, and the buffered
-//! input and output of a connection. The crate depends on `tiny_http_text`, `memchr` and the standard library.
+//! Reading and writing: the device traits, readers and writers for tests and simple programs, and the buffered input
+//! and output of a connection. The crate depends on `tiny_http_text`, `memchr` and the standard library.
 //! `tiny_http_wire` re-exports `device`, and `tiny_http_core` the other public modules.
 #![tactic(auto)]
 

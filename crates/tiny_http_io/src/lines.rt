@@ -58,8 +58,8 @@ pub(crate) fn one_less(room: Option<usize>) -> Option<usize>
     }
 }
 
-// Appends a byte that doesn't end the line. A CR is held back until the byte after it is known; `after_return` says
-// whether a CR is held back. Fails with `Memory` if memory is refused.
+/// Appends a byte that doesn't end the line. A CR is held back until the byte after it is known; `after_return` says
+/// whether a CR is held back. Fails with `Memory` if memory can't be allocated.
 pub(crate) fn go_on(text: &mut Vec<u8>, after_return: &mut bool, b: u8) -> Result<(), LineFault>
     requires not_end { after_return.old ≡ true → b ≢ 10 }
     requires passed { BeginsNoLineEnd text.old.items (held_return after_return.old) }
@@ -86,7 +86,7 @@ pub(crate) fn go_on(text: &mut Vec<u8>, after_return: &mut bool, b: u8) -> Resul
     }
 }
 
-// Appends a byte to the line. Fails with `Memory` if memory is refused.
+// Appends a byte to the line. Fails with `Memory` if memory can't be allocated.
 fn keep(text: &mut Vec<u8>, b: u8) -> Result<(), LineFault>
     ensures ok { OnOk result (text.new.items ≡ text.old.items ++ b ∷ []) }
     ensures len { OnOk result (vec_len text.new ≡ vec_len text.old + 1) }

@@ -74,8 +74,7 @@ impl<W: WriteDevice> Outlet<W> {
         }
     }
 
-    // Writes some bytes straight to the inner writer. No bytes may be buffered when it is called. A fault ends the
-    // outlet.
+    // Writes some bytes straight to the inner writer. The buffer must be empty. A fault ends the outlet.
     fn pass(&mut self, buf: &[u8]) -> Result<usize, io::Error>
         requires open { self.old.ended ≡ false }
         requires none { self.old.held ≡ [] }
@@ -138,8 +137,8 @@ impl<W: WriteDevice> Outlet<W> {
     }
 
     /// Takes all bytes. They are buffered, and the buffer is sent when it is full and more bytes follow; `CAPACITY`
-    /// bytes or more bypass an empty buffer. A fault ends the outlet. Once the outlet has ended, it takes no bytes and
-    /// returns `Ok`.
+    /// bytes or more bypass an empty buffer. A fault ends the outlet. Once the outlet has ended, this takes no bytes
+    /// and returns `Ok`.
     pub fn write(&mut self, bytes: &[u8]) -> Result<(), io::Error>
         ensures puts { Puts (output_of self.old) (output_of self.new) result bytes.now }
         // If the buffer is empty and fewer than `CAPACITY` bytes are written, the inner writer isn't called.
@@ -182,8 +181,8 @@ impl<W: WriteDevice> Outlet<W> {
         }
     }
 
-    /// Does nothing. Its contract states what always holds of an outlet and its writer. It is for the crates that build
-    /// on this one.
+    /// Does nothing. Its contract states what always holds for an outlet and its writer. Intended for the crates that
+    /// build on this one.
     pub fn facts(&self)
         ensures sink { self.now.sink ≡ W.sink self.now.writer }
         ensures none { self.now.ended ≡ true → self.now.held ≡ [] }
@@ -216,7 +215,7 @@ impl<W: WriteDevice> Outlet<W> {
         sent
     }
 
-    /// Returns how often the inner writer has failed. It is for the crates that build on this one.
+    /// Returns the inner writer's failure count. Intended for the crates that build on this one.
     pub fn writer_failures(&self) -> u64
         ensures count { result ≡ (output_of self.now).failures }
         ensures sent { let s = self.now.sink in BeginsKnown s.sent s.taken }
@@ -224,7 +223,7 @@ impl<W: WriteDevice> Outlet<W> {
         self.inner.failures()
     }
 
-    /// Ends the outlet and discards the buffered bytes. It is for the crates that build on this one.
+    /// Ends the outlet and discards the buffered bytes. Intended for the crates that build on this one.
     pub fn abandon(&mut self)
         ensures held { outlet_held self.new ≡ [] }
         ensures ended { outlet_ended self.new ≡ true }
@@ -275,8 +274,8 @@ impl<W: WriteDevice> WriteDevice for Outlet<W> {
 }
 
 // Method calls find the inherent `write` and `flush` before these. `contents` is left unstated, since an outlet drops
-// the bytes written after its end, and a fault may lose buffered ones. The clauses describe the outlet's own sink
-// (`output_of`) and state instead.
+// the bytes written after its end, and a fault may lose buffered ones. Instead, the clauses below describe the outlet's
+// own sink (`output_of`) and state.
 impl<W: WriteDevice> Write for Outlet<W> {
     ghost use Rattle.std.specs.Io.{WritesAtMost};
     ghost use Rattle.tiny_http_io.specs.Outlet.{output_of, outlet_held, outlet_ended, SentOn};
@@ -307,8 +306,8 @@ impl<W: WriteDevice> Write for Outlet<W> {
 
     /// Takes all bytes, as the inherent `write` does.
     ///
-    /// It stops at the first fault and reports it, even one of kind `Interrupted`: that fault has ended the outlet, so
-    /// a retry would return `Ok`.
+    /// Stops at the first fault and reports it, even one of kind `Interrupted`: that fault has ended the outlet, so a
+    /// retry would return `Ok`.
     fn write_all(&mut self, buf: &[u8]) -> io::Result<()>
         ensures puts { Puts (output_of self.old) (output_of self.new) result buf.now }
         ensures ended { OnErr result (outlet_ended self.new ≡ true) }

@@ -20,13 +20,13 @@ pub enum LineFault {
     End,
     /// The line has a byte above 127. The source continues after the line.
     NotAscii,
-    /// All bytes up to the limit have come, without a CR LF. From then on the source is at its end.
+    /// All bytes up to the limit have arrived without a CR LF. From then on the source is at its end.
     TooLong,
     /// The reader timed out before a CR LF.
     TimedOut,
     /// The reader failed with an error of this kind before a CR LF.
     Broken(ErrorKind),
-    /// Memory for the line was refused. From then on the source is at its end.
+    /// Memory for the line couldn't be allocated. From then on the source is at its end.
     Memory,
 }
 
@@ -58,7 +58,7 @@ pub enum InputState {
 impl InputState {
     ghost use Rattle.tiny_http_io.specs.InputState.{after_body, after_fault, after_abandoned};
 
-    /// Returns the state after a body that was read or skipped whole: `Head` after `Body`; any other state is kept.
+    /// Returns the state after a body that was entirely read or skipped: `Head` after `Body`; any other state is kept.
     pub fn after_body(self) -> InputState
         ensures { result ≡ after_body self }
     {
@@ -94,9 +94,10 @@ impl InputState {
 /// The buffered input of a connection. It also stores an `InputState`, which the crates that build on this one set.
 ///
 /// The buffer holds at most 1024 bytes. The reader is called only for a byte that isn't buffered, and never again after
-/// its first end or fault: nothing is read ahead beyond what one call returns. The clauses `lazy` in
-/// `specs/Source.antt` state that a call that returned what was asked for met no end or fault. The clauses `calls`
-/// state that the reader reports at most one end or fault in all calls together.
+/// its first end or fault. Nothing is read ahead beyond what one call to the reader returns. The clauses `lazy` in
+/// `specs/Source.antt` state that a call that returned what was asked for encountered no end or fault. The clauses
+/// `calls` state that the reader reports at most one end or fault in all calls together. The exception is `read_ahead`,
+/// which always calls the reader.
 #[derive(Drop)]
 pub struct Source<R: ReadDevice> {
     input: Input<R>,
@@ -148,7 +149,7 @@ impl<R: ReadDevice> Source<R> {
         self.input_state
     }
 
-    /// Sets what comes next in the input. It is for the crates that build on this one, which read heads and bodies.
+    /// Sets what comes next in the input. Intended for the crates that build on this one, which read heads and bodies.
     pub fn set_input_state(&mut self, input_state: InputState)
         ensures { self.new ≡ record self.old { input_state = input_state } }
     {
@@ -207,8 +208,8 @@ impl<R: ReadDevice> Source<R> {
 
     /// Reads the next line, as `read_line` does, if the line and its CR LF have at most `left` bytes.
     ///
-    /// Fails with `TooLong` if the next `left` bytes contain no CR LF, as soon as these have come; the source is then
-    /// at its end. At most `left` bytes of the line are copied. The other faults are those of `read_line`.
+    /// Fails with `TooLong` if the next `left` bytes contain no CR LF, as soon as these have arrived; the source is
+    /// then at its end. At most `left` bytes of the line are copied. The other faults are those of `read_line`.
     pub fn read_line_within(&mut self, alloc: Global, left: usize) -> Result<AsciiString, LineFault>
         ensures reads { ReadsOneLine (Some left) self.old self.new result }
         ensures calls { CallsReader R.stop_count self.old self.new }
@@ -216,11 +217,11 @@ impl<R: ReadDevice> Source<R> {
         self.input.read_line(alloc, Some(left))
     }
 
-    /// Finds the next line, which may contain any bytes, within `left` bytes if that limit is given. It is for the
+    /// Finds the next line, which may contain any bytes, within `left` bytes if that limit is given. Intended for the
     /// crates that build on this one.
     ///
-    /// A line that is whole in the buffer stays there, to be parsed in place without an allocation. Any other line is
-    /// read and consumed, with its CR LF. The faults are those of `read_line_within`, except `NotAscii`.
+    /// A line that is entirely in the buffer stays there, to be parsed in place without an allocation. Any other line
+    /// is read and consumed, with its CR LF. The faults are those of `read_line_within`, except `NotAscii`.
     pub fn find_line(&mut self, alloc: Global, left: Option<usize>) -> Result<FirstLine, LineFault>
         ensures finds { FindsOneLine left self.old self.new result }
         ensures calls { CallsReader R.stop_count self.old self.new }
@@ -228,7 +229,7 @@ impl<R: ReadDevice> Source<R> {
         self.input.find_line(alloc, left)
     }
 
-    /// Returns the buffered bytes, beginning with those still to be skipped. It is for the crates that build on this
+    /// Returns the buffered bytes, beginning with those still to be skipped. Intended for the crates that build on this
     /// one.
     pub fn held(&self) -> &[u8]
         ensures { result.now ≡ self.now.held }
@@ -244,7 +245,7 @@ impl<R: ReadDevice> Source<R> {
     }
 
     /// Consumes a line that `find_line` found in the buffer: n bytes and the CR LF after them. The reader isn't called.
-    /// It is for the crates that build on this one.
+    /// Intended for the crates that build on this one.
     pub fn pass_line(&mut self, n: usize)
         requires skip { self.old.skip ≡ 0 }
         requires line { EndsLine self.old.held n }
@@ -253,7 +254,7 @@ impl<R: ReadDevice> Source<R> {
         self.input.pass_line(n)
     }
 
-    /// Consumes n buffered bytes without calling the reader. It is for the crates that build on this one.
+    /// Consumes n buffered bytes without calling the reader. Intended for the crates that build on this one.
     pub fn consume(&mut self, n: usize)
         requires skip { self.old.skip ≡ 0 }
         requires held { n ≤ length self.old.held }
@@ -264,7 +265,7 @@ impl<R: ReadDevice> Source<R> {
 
     /// Reads some bytes and returns how many: 0 at the end, or if `buf` is empty. After the last byte each read into a
     /// nonempty `buf` reports how the input stopped. If no byte is buffered or to be skipped and the input hasn't
-    /// stopped, a read into 1024 bytes or more goes straight to the reader.
+    /// stopped, a read into a `buf` of 1024 bytes or more goes straight to the reader.
     pub fn read(&mut self, buf: &mut [u8]) -> Result<usize, io::Error>
         ensures reads { ReadsSource self.old self.new result buf.new }
         ensures stop_count { Tells (R.stop_count self.old.reader) (R.stop_count self.new.reader) result }
@@ -274,7 +275,7 @@ impl<R: ReadDevice> Source<R> {
     }
 
     /// Takes exactly n bytes. If fewer are left, takes them all and returns `None`, and the source is over. Fails, and
-    /// changes nothing, if memory is refused.
+    /// changes nothing, if memory can't be allocated.
     pub fn take_exactly(&mut self, alloc: Global, n: usize) -> Result<Option<Vec<u8>>, AllocError>
         ensures takes { TakesBytes n self.old self.new result }
         ensures calls { CallsReader R.stop_count self.old self.new }
@@ -294,7 +295,7 @@ impl<R: ReadAheadDevice> Source<R> {
         self.input.ahead()
     }
 
-    /// Has the reader read ahead once, as `ReadAheadDevice::read_ahead` does. What the source gives is unchanged.
+    /// Has the reader read ahead once, as `ReadAheadDevice::read_ahead` does. What the source yields is unchanged.
     pub fn read_ahead(&mut self) -> Result<usize, io::Error>
         ensures unread { IsUnread self.old self.new }
         ensures stop_count { R.stop_count self.new.reader ≤ R.stop_count self.old.reader + 1 }
@@ -302,7 +303,7 @@ impl<R: ReadAheadDevice> Source<R> {
         self.input.read_ahead()
     }
 
-    /// Has the reader free the memory of the bytes that are read ahead, if none is stored.
+    /// Has the reader free the memory for bytes that are read ahead, if no such bytes are stored.
     pub fn release_ahead(&mut self)
         ensures unread { IsUnread self.old self.new }
         ensures stop_count { R.stop_count self.new.reader ≡ R.stop_count self.old.reader }

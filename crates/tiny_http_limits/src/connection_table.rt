@@ -29,17 +29,17 @@ impl<T> Entry<T> {
 /// The reason why a connection isn't admitted.
 #[derive(Clone, Copy, Debug, PartialEq, Eq)]
 pub enum Refusal {
-    /// The limit of open connections is reached, or no number is left.
+    /// The limit on open connections is reached, or no number is left.
     Full,
-    /// The limit of open connections from its address is reached.
+    /// The limit on open connections from its address is reached.
     AddressFull,
-    /// Memory was refused.
+    /// Memory couldn't be allocated.
     Memory,
 }
 
 /// The table of open connections, in order of arrival, each with an item.
 ///
-/// It limits the number of connections in all and per IP address. A contract sees the two limits, the next number and
+/// It limits the number of connections in total and per IP address. A contract sees the two limits, the next number and
 /// the entries.
 #[derive(Drop)]
 pub struct ConnectionTable<T> {
@@ -67,7 +67,7 @@ impl<T> Model for ConnectionTable<T> {
 }
 
 impl<T: Drop> ConnectionTable<T> {
-    /// Makes an empty table with these limits: on connections in all, and on connections from one address.
+    /// Makes an empty table with these limits: on connections in total, and on connections from one address.
     pub fn new(alloc: Global, most: usize, most_of_address: usize) -> ConnectionTable<T>
         ensures { result ≡ nobody most most_of_address }
     {
@@ -87,7 +87,7 @@ impl<T: Drop> ConnectionTable<T> {
         self.present.count()
     }
 
-    /// Returns whether the limit of open connections is reached.
+    /// Returns whether the limit on open connections is reached.
     pub fn is_full(&self) -> bool
         ensures { IsTrue result ↔ (self.now.most ≤ length self.now.entries) }
     {
@@ -97,9 +97,9 @@ impl<T: Drop> ConnectionTable<T> {
     /// Adds a connection with its address, if it has one, and an item. Returns the connection's number, which no
     /// earlier connection had.
     ///
-    /// Fails with `Full` if the limit is reached or no number is left; otherwise with `AddressFull` if the limit of the
-    /// address is reached; otherwise with `Memory` if memory is refused. A call that fails drops the item and changes
-    /// nothing else.
+    /// Fails with `Full` if the limit is reached or no number is left; otherwise with `AddressFull` if the limit for
+    /// the address is reached; otherwise with `Memory` if memory can't be allocated. A call that fails drops the item
+    /// and changes nothing else.
     pub fn enter(&mut self, address: Option<IpAddr>, item: T) -> Result<u64, Refusal>
         ensures { Enters self.old address item result self.new }
     {
@@ -125,7 +125,7 @@ impl<T: Drop> ConnectionTable<T> {
         }
     }
 
-    // Returns whether the limit of connections from this address is reached. Without an address there is no such limit.
+    // Returns whether the limit on connections from this address is reached. Without an address there is no such limit.
     fn is_address_full(&self, address: Option<IpAddr>) -> bool
         ensures { result ≡ is_address_full self.now address }
     {

@@ -8,13 +8,13 @@ use std::fmt;
 /// The limit that closed a connection.
 #[derive(Clone, Copy, Debug, PartialEq, Eq)]
 pub enum Closing {
-    /// No byte of a head came in time, or an upgraded stream was silent for too long.
+    /// No byte of a head arrived in time, or an upgraded stream was silent for too long.
     Idle,
     /// A head took too long.
     Head,
     /// A body took too long.
     Body,
-    /// The client didn't read a response in time.
+    /// The client took too long to read what was sent to it.
     Write,
 }
 
@@ -57,19 +57,19 @@ pub struct Counts {
     pub connections: u64,
     /// Requests that were handed to the application.
     pub requests: u64,
-    /// Heads that were refused, each the last of its connection.
+    /// Refused heads that ended the requests of their connection.
     pub refusals: Refusals,
     /// Failed attempts to accept a connection, after which the server continued.
     pub accept_faults: u64,
     /// Connections that were closed at once because their client address had reached its connection limit.
     pub turned_away: u64,
-    /// Connections closed because no byte of a head came in time, or an upgraded stream was silent for too long.
+    /// Connections closed because no byte of a head arrived in time, or an upgraded stream was silent for too long.
     pub idle: u64,
     /// Connections whose head took too long.
     pub slow_heads: u64,
     /// Connections whose body took too long.
     pub slow_bodies: u64,
-    /// Connections whose client didn't read the responses in time.
+    /// Connections whose client took too long to read what was sent to it.
     pub slow_writes: u64,
 }
 

@@ -16,8 +16,9 @@ pub struct Limits {
     /// Connections over a Unix socket have no address and aren't counted. Behind a proxy all clients have the proxy's
     /// address.
     pub connections_of_address: usize,
-    /// Maximum time for a head once its first bytes have come: 30 seconds by default. A slower head is answered with
-    /// 408. The rest of a body that is skipped before the head counts as part of the head.
+    /// Maximum time for a head once its first bytes have arrived: 30 seconds by default. A slower head is answered with
+    /// 408. A body of up to 1024 bytes that is read with the head, and the rest of a body that is skipped before the
+    /// head, count as part of it.
     pub head_time: Duration,
     /// Maximum time without a byte of a head: 60 seconds by default. After this time the connection is closed without a
     /// response. But if a request was open when the time began, the time starts over instead.
@@ -26,13 +27,13 @@ pub struct Limits {
     /// `least_rate` describes. Once the time is over, a read that got no bytes and each later read of the body report
     /// `TimedOut`, and the connection ends after the response.
     pub body_time: Duration,
-    /// Maximum time that writes of responses may wait: 60 seconds by default. The bytes written give time back, as
+    /// Maximum time that writes to the client may wait: 60 seconds by default. The bytes written give time back, as
     /// `least_rate` describes. Once the time is over, the output ends and the connection is closed.
     pub write_time: Duration,
-    /// Minimum rate of a body, or of responses, in bytes per second: 500 by default. Each byte gives back the time that
-    /// it takes at this rate, but no more than was waited. So the reads of a body of N bytes wait at most `body_time`
-    /// plus N / `least_rate` seconds, and writes likewise. If the rate is 0, there is no minimum: every 4096 bytes
-    /// give back the whole time.
+    /// Minimum rate of a body, or of writes to the client, in bytes per second: 500 by default. Each byte gives back
+    /// the time that it takes at this rate, but no more than was waited. So the reads of a body of N bytes wait at most
+    /// `body_time` plus N / `least_rate` seconds, and writes likewise. If the rate is 0, there is no minimum: every
+    /// 4096 bytes give back the whole time.
     pub least_rate: usize,
     /// Maximum time without a byte in either direction on an upgraded stream: 10 minutes by default; `None` means no
     /// limit. A read then reports `TimedOut`, and the connection is closed. The time begins with each read. But if
@@ -46,9 +47,9 @@ pub struct Limits {
     /// count as 2.
     pub open_requests: usize,
     /// Maximum number of threads that a call to `serve` uses for its connections, and of those that read requests for
-    /// `recv`: 1000 by default. A connection that waits for its client to send a head takes no thread; one whose
-    /// handler runs, or that is upgraded, takes one. If all threads are busy, further connections wait for one. Values
-    /// below 1 count as 1.
+    /// `recv`: 1000 by default. A connection that waits for its client to send a head takes no thread. It takes one
+    /// while its handler runs, while a request reads its input, while it is upgraded, and while its last responses are
+    /// awaited. If all threads are busy, further connections wait for one. Values below 1 count as 1.
     pub workers: usize,
 }
 
@@ -93,7 +94,7 @@ impl Limits {
         }
     }
 
-    /// Returns the limits of time and rate for writes of responses.
+    /// Returns the limits of time and rate for writes to the client.
     pub fn write_patience(&self) -> Patience
         ensures { result ≡ record { time = self.now.write_time; least_rate = self.now.least_rate } }
     {

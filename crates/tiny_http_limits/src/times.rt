@@ -5,14 +5,14 @@ ghost use Rattle.tiny_http_limits.specs.Times.{LeavesTime, IsFresh, AddsCall, Gi
 
 use std::time::Duration;
 
-/// The number of bytes that give back the whole time if there is no minimum rate.
+/// The number of bytes after which the time to wait starts over, if there is no minimum rate.
 pub const PIECE: usize = 4_096;
 
 // The number of nanoseconds in a second.
 const NANOS: u64 = 1_000_000_000;
 
-/// Returns what is left at `now` of the time `time`, which began at `begun`, or `None` if the time is over. `begun` and
-/// `now` are readings of one clock; if the clock went back, the whole time is left.
+/// Returns how much of `time`, counted from `begun`, remains at `now`, or `None` if it has run out. `begun` and `now`
+/// are readings of one clock; if the clock went backwards, all of `time` remains.
 pub fn time_left(begun: Duration, now: Duration, time: Duration) -> Option<Duration>
     ensures { LeavesTime (as_nanos now - as_nanos begun) (as_nanos time) result }
 {
@@ -34,7 +34,7 @@ fn time_of_bytes(bytes: usize, rate: usize) -> Duration
     Duration::from_nanos(nanos / rate as u64)
 }
 
-/// The limits of time and rate for waiting for a client.
+/// The time for which the server waits for a client, and the rate at which the client's bytes extend it.
 #[derive(Clone, Copy, Debug, PartialEq, Eq)]
 pub struct Patience {
     /// The maximum time to wait, not counting the time that the client's bytes give back.

@@ -11,8 +11,8 @@ use tiny_http_io::device::{ReadDevice, Stop};
 use tiny_http_io::source::Source;
 
 /// Begins the body after a head with this framing, and returns it. A body of `Form::WithHead`, which has up to 1024
-/// bytes, is read at once; if the source's end or a fault cuts it, returns `None`. Fails if memory for such a body is
-/// refused.
+/// bytes, is read at once; if the source's end or a fault cuts it, returns `None`. Fails if memory for such a body
+/// can't be allocated.
 #[inline(always)]
 pub fn begin_body<R: ReadDevice>(
     alloc: Global,

@@ -28,7 +28,7 @@ use tiny_http_response::sending::send;
 /// The number of bytes reserved for an empty error response, which has at most 162.
 pub const OWN_ANSWER: usize = 168;
 
-// Prints a response to a refused head into memory. Fails if memory is refused.
+// Prints a response to a refused head into memory. Fails if memory can't be allocated.
 fn refused_text<D: ReadDevice + Drop>(
     alloc: Global,
     answer: Response<D>,
@@ -57,7 +57,7 @@ fn refused_text<D: ReadDevice + Drop>(
 }
 
 /// Prints the response to a refused head: in this version, or in 1.1 under `Standard`, with this code, without added
-/// headers and without data. Under `Standard` it says that the connection closes. Fails if memory is refused.
+/// headers and without data. Under `Standard` it says that the connection closes. Fails if memory can't be allocated.
 pub fn error_response(
     alloc: Global,
     status: StatusCode,
@@ -89,7 +89,7 @@ const TOO_NEW: &str = "This server only supports HTTP versions 1.0 and 1.1";
 
 /// Prints the response to a head whose version is above 1.1, under `Lenient` and `Strict`: a 505 in version 1.1 with a
 /// plain-text body that names the supported versions (as in the Rust crate; RFC 9110, section 15.6.6). The body is
-/// omitted if `no_body` is set. Fails if memory is refused.
+/// omitted if `no_body` is set. Fails if memory can't be allocated.
 pub fn too_new_answer(alloc: Global, no_body: bool, now: HttpDate) -> Result<Vec<u8>, AllocError>
     ensures { IfOk result
         (λ text. text.items ≡ refused_text (refusal_response VersionNotSupported) (plainly (version 1 1)) no_body
@@ -213,7 +213,7 @@ impl Model for DropText {
 }
 
 impl DropText {
-    /// Creates a text that will be printed with the date `now`. Fails if memory is refused.
+    /// Creates a text that will be printed with the date `now`. Fails if memory can't be allocated.
     pub fn new(alloc: Global, now: HttpDate) -> Result<DropText, AllocError>
         ensures { IfOk result (λ text. text ≡ record { is_taken = false; date = now }) }
     {

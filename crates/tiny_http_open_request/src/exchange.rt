@@ -78,7 +78,7 @@ pub enum EndOfRequests {
     AbandonedBody,
     /// The previous body was neither read to its end nor discarded.
     UnreadBody,
-    /// Memory for the head or its response was refused.
+    /// Memory for the head or its response couldn't be allocated.
     Memory,
 }
 
@@ -121,10 +121,10 @@ impl Exchange {
         &self.head
     }
 
-    /// Reads some bytes of the body into the front of `buf`, and returns their number: possibly fewer than fit although
+    /// Reads some bytes of the body into the front of `buf`, and returns their number: possibly fewer than fit, even if
     /// more follow, and 0 if `buf` is empty. The source must be the one that the request was read from. After the last
-    /// byte each call returns 0, or the fault that cuts or breaks the body (RFC 9112, sections 6.2 and 7.1). Allocates
-    /// nothing.
+    /// byte each call returns 0, or fails with the fault that cuts or breaks the body (RFC 9112, sections 6.2 and 7.1).
+    /// Allocates nothing.
     ///
     /// The fault is the reader's own, or `InvalidData` or `UnexpectedEof` if the body is chunked; after it the source
     /// has ended. If the end of input cuts a body of known length, the body ends there; under `Standard` the fault is
@@ -137,10 +137,10 @@ impl Exchange {
         ensures reads { ReadsBody (exchange_body self.old) (exchange_body self.new) source.old source.new result
             buf.new }
         ensures kept { KeepsButBody self.old self.new }
-        // One read meets at most one end or fault of the source's reader, and none if it returns bytes.
+        // The source's reader reports at most one end or fault, and none if bytes were read.
         ensures stop_count { Tells (R.stop_count source.old.reader) (R.stop_count source.new.reader) result }
-        // A read meets an end or fault of the source's reader only if the body is then cut or broken, or is the whole
-        // rest of the input.
+        // The source's reader reports an end or fault only if the body is then cut or broken, or is the whole rest of
+        // the input.
         ensures whole { R.stop_count source.new.reader ≤ R.stop_count source.old.reader
             + ends_met (exchange_body self.old) (bytes_given result) (exchange_body self.new) }
     {
@@ -151,13 +151,13 @@ impl Exchange {
     /// respond to each request exactly once, in order, and then discard the body. Under `Standard` the response says
     /// that the connection closes if the request is the last according to its head, its 100 is owed, more than 65,536
     /// bytes of a body with a `Content-Length` are unread, or the end of its body isn't known; the caller must then
-    /// read no further head. A body discarded before this call counts as read.
-    /// `Response::with_close` has no effect here.
+    /// read no further head. A body discarded before this call counts as read. `Response::with_close` has no effect
+    /// here.
     ///
     /// On an outlet that has ended this sends nothing, doesn't read the data, and returns `Ok`. Fails with the first
     /// fault of the data or the first fault of the writer (if both fail, it is unspecified which is returned), or with
-    /// `OutOfMemory` if memory for data of unknown length is refused. After a failure the outlet has ended; unless the
-    /// writer failed, the bytes that were held are sent.
+    /// `OutOfMemory` if memory for data of unknown length can't be allocated. After a failure the outlet has ended;
+    /// unless the writer failed, the bytes that were held are sent.
     pub fn respond_on<W: WriteDevice, D: ReadDevice + Drop>(
         &mut self,
         alloc: Global,

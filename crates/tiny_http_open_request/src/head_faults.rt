@@ -37,7 +37,7 @@ pub(crate) fn is_timed_out(stop: Option<Stop>) -> bool
 }
 
 // Refuses a head with this status: prints an empty response, in this version or, under `Standard`, in 1.1. No head
-// follows. Fails if memory is refused.
+// follows. Fails if memory can't be allocated.
 pub(crate) fn refused_with(
     alloc: Global,
     status: StatusCode,
@@ -90,7 +90,7 @@ fn skip<R: ReadDevice>(source: &mut Source<R>, body: &UnreadBody)
 }
 
 // Refuses a head for its version, under `Lenient` or `Strict`. If another head follows, skips the refused head's body.
-// Fails if memory is refused.
+// Fails if memory can't be allocated.
 pub(crate) fn refuse_too_new<R: ReadDevice>(
     alloc: Global,
     source: &mut Source<R>,
@@ -117,7 +117,7 @@ pub(crate) fn refuse_too_new<R: ReadDevice>(
 
 // Returns the result for a source that stopped in this way before a head, or a body that is read with it, had arrived:
 // a refusal with 408 for a timeout, or otherwise why no request follows. `has_begun` means that bytes of the head had
-// arrived. Fails if memory is refused.
+// arrived. Fails if memory can't be allocated.
 pub(crate) fn answer_cut(
     alloc: Global,
     stop: Option<Stop>,
@@ -134,7 +134,7 @@ pub(crate) fn answer_cut(
 }
 
 // Returns the result for a faulty head: a refusal, or why no request follows. `stop` is how the source stopped if the
-// head is cut. Fails if memory is refused.
+// head is cut. Fails if memory can't be allocated.
 pub(crate) fn answer_fault(
     alloc: Global,
     version: Option<HTTPVersion>,

@@ -14,7 +14,7 @@ pub fn sizes_of_heads()
     ensures headers { MOST_HEADERS ≡ 256 }
 {}
 
-/// Under each profile each feed has exactly one pipeline.
+/// Under each profile each feed has exactly one pipeline: the list of its requests and refused heads.
 pub fn one_pipeline()
     ensures some { (p : Profile) (feed : Feed) → (items : List Item) × Pipeline p (Some feed.bytes) feed.stop items }
     ensures one { (p : Profile) (feed : Feed) (items others : List Item)

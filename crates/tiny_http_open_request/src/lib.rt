@@ -1,6 +1,7 @@
-//! One request of a connection, without locks (RFC 9112): its head, read from the connection's input; what is still
-//! owed; how far its body has been read; its response; and the server's own error responses. This crate builds on
-//! `tiny_http_standard_head` and `tiny_http_response`; `tiny_http_core` re-exports `exchange` and `upgrading`.
+//! One request of a connection, without locks (RFC 9112): its head, read from the connection's input; whether a 100
+//! (Continue) is still owed; how far its body has been read; its response; and the server's own error responses. This
+//! crate builds on `tiny_http_standard_head` and `tiny_http_response`; `tiny_http_core` re-exports `exchange` and
+//! `upgrading`.
 #![tactic(auto)]
 
 pub mod body_start;

@@ -28,7 +28,7 @@ pub trait RefusalPlace<O> {
     ghost refuses: { Self → O → List ℕ → Bool → Self → O → Type 0 };
 
     /// Accepts the complete response to a refused head, which must be sent in the turn of the head. The call must not
-    /// block. Fails if memory is refused.
+    /// wait for that turn. Fails if memory can't be allocated, or if the place accepts no further response.
     fn refuse(&mut self, output: &mut O, text: Vec<u8>) -> Result<(), AllocError>
         ensures { refuses self.old output.old text.items (is_ok result) self.new output.new };
 }
@@ -36,7 +36,8 @@ pub trait RefusalPlace<O> {
 /// Reads heads up to that of the next request, and hands the response to each refused head to `place`. A refused head
 /// ends the requests, with one exception: under `Lenient` and `Strict` the next head is read after a 505, unless the
 /// refused head names an upgrade or its body is chunked (as in the Rust crate). `now` dates the responses to refused
-/// heads, and the 500 of a dropped request. Fails if memory is refused, or after 2^64 refused heads.
+/// heads, and the 500 of a dropped request. Fails if memory can't be allocated, if `place` fails, or after 2^64 refused
+/// heads.
 pub fn next_request<R: ReadDevice, O, P: RefusalPlace<O>>(
     alloc: Global,
     source: &mut Source<R>,

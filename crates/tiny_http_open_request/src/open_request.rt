@@ -201,8 +201,8 @@ impl<B: Drop> OpenRequest<B> {
     ///
     /// On an outlet that has ended this sends nothing, doesn't read the data, and returns `Ok`. Fails with the first
     /// fault of the data or of the writer (if both fail, with either), or with `OutOfMemory` if memory for data of
-    /// unknown length is refused. After a failure the outlet has ended; unless the writer failed, the bytes that were
-    /// held are sent.
+    /// unknown length can't be allocated. After a failure the outlet has ended; unless the writer failed, the bytes
+    /// that were held are sent.
     pub fn respond<W: WriteDevice, D: ReadDevice + Drop>(
         &mut self,
         alloc: Global,
@@ -397,7 +397,7 @@ fn coding_for(by_standard: bool, headers: &[Header]) -> Option<Coding>
     }
 }
 
-// Copies the headers named `Upgrade`. Fails if memory is refused.
+// Copies the headers named `Upgrade`. Fails if memory can't be allocated.
 fn upgrade_headers(alloc: Global, headers: &[Header]) -> Result<Vec<Header>, AllocError>
     ensures { IfOk result (λ upgrades. (protocol : List ℕ)
         → names_protocol upgrades.items protocol ≡ names_protocol headers.now protocol) }

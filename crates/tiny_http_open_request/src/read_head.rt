@@ -119,10 +119,10 @@ fn end_at(input_state: InputState, why: EndOfRequests) -> EndOfRequests
 
 /// Reads one head, and with it a body of `Form::WithHead`, which has up to 1024 bytes (RFC 9112, sections 2 to 6).
 /// Returns a request, whose body is then read from the source; a refused head; or the end, with its reason. `now` dates
-/// the response to a refused head, and the 500 of a dropped request. Fails if memory is refused.
+/// the response to a refused head, and the 500 of a dropped request. Fails if memory can't be allocated.
 ///
-/// Under `Lenient` and `Strict` a head is refused with 400 for a malformed line, 408 if the reader timed out, even
-/// before the first byte, 417 for an expectation that can't be met, and 505 for a version above 1.1, with a plain-text
+/// Under `Lenient` and `Strict` a head is refused with 400 for a malformed line, 408 if the reader timed out (even
+/// before the first byte), 417 for an expectation that can't be met, and 505 for a version above 1.1, with a plain-text
 /// body that names the supported ones (as in the Rust crate). `Strict` also refuses a head with 431 if the head hasn't
 /// ended within 65,536 bytes (RFC 6585, section 5), and with 400 if its framing is invalid (RFC 9112, section 6.3). If
 /// several faults apply, the first in this order decides: the first bad line, the size, the framing, the expectation, a

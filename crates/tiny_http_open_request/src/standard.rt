@@ -77,7 +77,7 @@ fn head_of(head: StandardHead, framing: Framing) -> Head
 }
 
 // Returns the result for a head that is cut: a refusal with 408 for a timeout after its first byte, or otherwise why no
-// request follows. Fails if memory is refused.
+// request follows. Fails if memory can't be allocated.
 fn answer_standard_cut(
     alloc: Global,
     stop: Option<Stop>,

@@ -24,8 +24,8 @@ pub enum UpgradeError {
     /// The protocol's name isn't ASCII.
     #[error("the protocol's name is not ASCII")]
     Protocol,
-    /// Under `Standard`: the request doesn't ask for this protocol, or can't be upgraded because it is its connection's
-    /// last or its body was discarded.
+    /// The request doesn't ask for this protocol, or, under `Standard`, is its connection's last or had its body
+    /// discarded. Under the other profiles `upgrade` doesn't check this, but `try_upgrade` does.
     #[error("the request does not ask for this protocol, or is the last")]
     NotAsked,
     /// Under `Standard`: the response's code isn't 101.

@@ -49,8 +49,8 @@ fn end_behind<R: ReadDevice + Drop, Rt: Wait + Drop>(reader: HeldReader<Source<R
 /// 65,536 bytes of a body with a `Content-Length` are unread.
 ///
 /// After the end each read returns 0. After a fault, the client's or the body's own, each read fails with that fault,
-/// even one of kind `Interrupted`. The standard library's `read_to_end` and `read_to_string` retry that kind without
-/// end: if the client's reader may be interrupted, use `read` or `read_exact`.
+/// even one of kind `Interrupted`, which the standard library's `read_to_end` and `read_to_string` would retry forever.
+/// So if the client's reader may be interrupted, use `read` or `read_exact`.
 pub struct Body<R: ReadDevice + Drop, Rt: Wait + Drop> {
     unread: UnreadBody,
     reader: Option<HeldReader<Source<R>, Rt>>,
@@ -59,8 +59,8 @@ pub struct Body<R: ReadDevice + Drop, Rt: Wait + Drop> {
     begun: Option<Remembered<Source<R>>>,
 }
 
-// Passes the input on if the body isn't read from it any more and the next head needn't wait for the response;
-// otherwise returns the reader.
+// Passes the input on if the body is no longer read from it and the next head needn't wait for the response; otherwise
+// returns the reader.
 fn give_on<R: ReadDevice + Drop, Rt: Wait + Drop>(
     reader: HeldReader<Source<R>, Rt>,
     is_read: bool,
@@ -100,14 +100,14 @@ impl<R: ReadDevice + Drop, Rt: Wait + Drop> Model for Body<R, Rt> {
     } };
 
     // The body holds the input exactly while it is read from there, or while the next head waits for the response. The
-    // input states its feed exactly if it did at first.
+    // input states its feed if and only if it did so when the body was created.
     ghost invariant = { λ b. (is_some b.reader ≡ (is_streaming b.unread || outlasts_body b.gives_on))
         × (is_some (input_of b.reader b.begun) ≡ is_some (begun_feed b.begun)) };
 }
 
 impl<R: ReadDevice + Drop, Rt: Wait + Drop> Body<R, Rt> {
-    /// Creates a body. `reader` holds the input; it is given exactly if the body is read from the input, or the next
-    /// head waits for the response.
+    /// Creates a body. `reader` holds the input; it is `Some` if and only if the body is read from the input, or the
+    /// next head waits for the response.
     pub(crate) fn new(
         unread: UnreadBody,
         reader: Option<HeldReader<Source<R>, Rt>>,
@@ -155,8 +155,8 @@ impl<R: ReadDevice + Drop, Rt: Wait + Drop> Body<R, Rt> {
         self.unread.remainder()
     }
 
-    /// Makes the body the stream of an upgrade: under `Standard`, if the body holds the input, it reads all further
-    /// input.
+    /// Turns the body into the upgraded stream: under `Standard`, if the body holds the input, it then reads all
+    /// further input.
     pub(crate) fn become_stream(&mut self, by_standard: bool)
         ensures { self.new ≡ upgraded_body by_standard self.old }
     {
@@ -165,9 +165,9 @@ impl<R: ReadDevice + Drop, Rt: Wait + Drop> Body<R, Rt> {
         }
     }
 
-    /// Ends the requests: no head is read after this body's request, which asks for an upgrade, owes a 100, or has more
-    /// of its body unread than is skipped, so that the body holds the input. If the body is no longer read from the
-    /// input, the input is passed on at once.
+    /// Ends the requests: no head is read after this body's request. The body must hold the input. It does if the
+    /// request asks for an upgrade, is still owed a 100, or has more of its body unread than the server skips. If the
+    /// body is no longer read from the input, the input is passed on at once.
     pub(crate) fn end_requests(&mut self)
         ensures { KeepsLeft self.old self.new }
     {

@@ -45,8 +45,8 @@ pub(crate) struct Client {
 pub(crate) struct Links {
     /// The policy by which the connection's flushes may hold their bytes back, if there is one.
     pub flush_policy: Option<Arc<FlushPolicy>>,
-    /// The state that the connection's threads share, if it is set. A request has it only if it reads from the
-    /// connection.
+    /// The state that the connection's threads share, if it is set. A request has it only if its body holds the
+    /// connection's input.
     pub shared: Option<Arc<SharedState>>,
 }
 
@@ -106,7 +106,7 @@ impl<Rt: Wait + Copy> ClientConnection<RefinedTcpStream, RefinedTcpStream, Rt> {
 
     /// Returns a connection over the two halves of a client's socket, before its first read, under `Lenient`. Its
     /// requests have the client's address, or none if the socket is a Unix socket or the system no longer knows the
-    /// address. Fails if memory is refused.
+    /// address. Fails if memory can't be allocated.
     pub fn new(
         rt: Rt,
         alloc: Global,
@@ -147,7 +147,7 @@ impl<R: ReadDevice + Drop, W: WriteDevice + Drop, Rt: Wait + Copy> ClientConnect
     ghost use Rattle.tiny_http_request.specs.Client.{client_source, IsFreshSource, HandsOutNext, GivesInput};
 
     /// Returns a connection over a writer and a reader, before its first read, under `Lenient`. Its requests have this
-    /// `remote_addr` and `secure`. Fails if memory is refused.
+    /// `remote_addr` and `secure`. Fails if memory can't be allocated.
     pub fn over(
         rt: Rt,
         alloc: Global,
@@ -207,12 +207,13 @@ impl<R: ReadDevice + Drop, W: WriteDevice + Drop, Rt: Wait + Copy> ClientConnect
         self.client.secure
     }
 
-    /// Lets consecutive responses leave together: flushes hold their bytes back while this policy allows it.
+    /// Lets consecutive responses be sent together: flushes hold their bytes back while this policy allows it.
     ///
-    /// The policy allows it once the connection hands out a request whose turn has come, whose body isn't read from the
-    /// connection, and which asks for no upgrade under `Standard`; it stops when any other request is handed out. A raw
-    /// writer, an upgrade, a streamed body and a 100 stop it too. The caller must have the `Cork` of this policy send
-    /// the held bytes: with `send_unless_leaving` after each `next`, and with `send` at the end.
+    /// The policy allows it once the connection hands out a request whose turn has come and whose body doesn't hold the
+    /// input: it isn't read from the connection, and under `Standard` the request asks for no upgrade, or is the last.
+    /// The policy no longer allows it once any other request is handed out, or a raw writer, an upgrade, a streamed
+    /// body or a 100 begins. The caller must have the `Cork` of this policy send the held bytes: with
+    /// `send_unless_leaving` after each `next`, and with `send` at the end.
     pub fn set_flush_policy(&mut self, flush_policy: Arc<FlushPolicy>)
         ensures over { IsOver self.new ↔ IsOver self.old }
         ensures input { client_source self.new ≡ client_source self.old }
@@ -223,9 +224,10 @@ impl<R: ReadDevice + Drop, W: WriteDevice + Drop, Rt: Wait + Copy> ClientConnect
         self.links.flush_policy = Some(flush_policy);
     }
 
-    /// Makes `next` report to this state when it waits for a head and when it hands out a request, and apply its
-    /// limit of open requests, which is at least 2: before a head, and before the response to a refused head, `next`
-    /// waits until fewer are open. A `TimedReader` and a `TimedWriter` apply the other limits.
+    /// Makes `next` report to this state when it waits for a head, when it hands out a request, and when a refused head
+    /// ends the requests. Also makes it apply the state's limit of open requests, which is at least 2: before a head,
+    /// and before the response to a refused head, `next` waits until fewer are open. A `TimedReader` and a
+    /// `TimedWriter` apply the timeouts.
     ///
     /// `next` returns `None` once the connection has been stopped. With limits it also returns `None` once a response
     /// has ended the output without being whole, because its data were too short or failed, or because the writer
@@ -246,21 +248,22 @@ impl<R: ReadDevice + Drop, W: WriteDevice + Drop, Rt: Wait + Copy> ClientConnect
     }
 
     /// Returns the flag that ends the requests once it is set, as a response made with `with_close` does: no further
-    /// request is handed out, and under `Standard` a response that hasn't begun says so if it is the last.
+    /// request is handed out, and under `Standard` the last response, if it hasn't begun, says that the connection
+    /// closes.
     pub fn closed_flag(&self) -> &Arc<AtomicBool> {
         self.sink.closed_flag()
     }
 
     /// Reads the next request and hands it out. If the connection has no further request, this call and each later one
     /// return `None`. `now` dates the responses to refused heads, and the 500 of this request if it is dropped. Fails
-    /// if memory is refused; then each later call returns `None`.
+    /// if memory can't be allocated; then each later call returns `None`.
     ///
-    /// The call waits for the client, and until the last request's body, if it holds the input, is read to its end or
-    /// given up. Under `Standard` it also waits until a request that asks for an upgrade is answered or dropped: a
+    /// The call waits for the client, and until the previous request's body, if it holds the input, is read to its end
+    /// or given up. Under `Standard` it also waits until a request that asks for an upgrade is answered or dropped: a
     /// program that makes this call on the same thread must do that first. It returns `None` after such a request if
-    /// its raw writer was taken or it was upgraded; if the stream of the upgrade still reads, the call first waits
-    /// until the stream has ended. Under `Standard` it also returns `None` after a request that was finished while its
-    /// 100 was owed, or while more than 65,536 bytes of a body with a `Content-Length` were unread.
+    /// its raw writer was taken or it was upgraded; if the upgraded stream still reads the input, the call first waits
+    /// for it to end. Under `Standard` it also returns `None` after a request that was finished while its 100 was owed,
+    /// or while more than 65,536 bytes of a body with a `Content-Length` were unread.
     ///
     /// It also returns `None` once a response made with `with_close` has been sent; a call that waits for the client
     /// then returns when the client sends a head, or sends no more. The client of a socket sees end of file after the
@@ -317,8 +320,8 @@ impl<R: ReadDevice + Drop, W: WriteDevice + Drop, Rt: Wait + Copy> ClientConnect
     }
 
     /// Waits until all that was handed out is answered: each request has been answered or dropped, or its raw writer or
-    /// stream has been dropped, and the refused heads have been answered. After that nothing reads or writes the
-    /// connection, unless the next request is asked for. Fails if memory is refused.
+    /// stream has been dropped, and the refused heads have been answered. After that nothing reads from the connection
+    /// or writes to it, unless the next request is asked for. Fails if memory can't be allocated.
     pub fn wait_for_answers(&mut self) -> Result<(), AllocError>
         ensures over { IsOver self.new ↔ IsOver self.old }
         ensures input { client_source self.new ≡ client_source self.old }
@@ -379,21 +382,21 @@ impl<R: ReadDevice + Drop, W: WriteDevice + Drop, Rt: Wait + Copy> ClientConnect
     }
 }
 
-/// What has come of a connection's next head.
+/// How much of a connection's next head has arrived.
 #[derive(Clone, Copy, Debug, PartialEq, Eq)]
 pub enum Readiness {
-    /// The whole head, or `next` returns without one. It may still wait: for a request that has the input, and for the
-    /// head after that; for the rest of a head of more than 16,384 bytes; and for the next head after one that is
-    /// refused with 505.
+    /// All of it, or `next` returns without a head. `next` may still wait: at the limit of open requests; for a request
+    /// that has the input, and for the head after that; for the rest of a head of more than 16,384 bytes; and for the
+    /// next head after one that is refused with 505.
     Ready,
-    /// A part of the head.
+    /// Part of it.
     Part,
-    /// Nothing.
+    /// None of it.
     Idle,
 }
 
 impl<R: ReadAheadDevice + Drop, W: WriteDevice + Drop, Rt: Wait + Copy> ClientConnection<R, W, Rt> {
-    /// Returns what has come of the next head, without reading from the client.
+    /// Returns how much of the next head has arrived, without reading from the client.
     pub fn readiness(&mut self) -> Readiness {
         match self.next_source() {
             Some((alloc, profile, source)) => readiness_of(alloc, source, profile),
@@ -401,8 +404,9 @@ impl<R: ReadAheadDevice + Drop, W: WriteDevice + Drop, Rt: Wait + Copy> ClientCo
         }
     }
 
-    /// Reads ahead what the client has sent, and returns what has come of the next head. Returns `Ready` if the rest of
-    /// the input can't be read ahead: it ends, has a fault, or is longer than there is room for.
+    /// Reads ahead what the client has sent, and returns how much of the next head has arrived. Also returns `Ready` if
+    /// no more can be read ahead: the input has ended or has a fault, no room is left, a request has the input, or no
+    /// head follows.
     pub fn read_ahead(&mut self) -> Readiness {
         let Some((alloc, profile, source)) = self.next_source() else {
             return Readiness::Ready;
@@ -415,15 +419,15 @@ impl<R: ReadAheadDevice + Drop, W: WriteDevice + Drop, Rt: Wait + Copy> ClientCo
         }
     }
 
-    /// Waits until no request has the input: until its body is read or given up. Returns at once if no request follows.
+    /// Waits until no request has the input, as `next` does. Returns at once if no request follows.
     pub fn wait_for_input(&mut self) {
         if !self.sink.is_closed() {
             self.hold_input();
         }
     }
 
-    /// Returns whether the last read from the client found that no more had come, and that the input goes on. If a
-    /// request has the input, that isn't known, and the result is false.
+    /// Returns whether the last read from the client found that no more bytes had arrived. Returns false if that isn't
+    /// known, because a request has the input, or if no head follows.
     pub fn is_drained(&mut self) -> bool {
         match self.next_source() {
             Some((_, _, source)) => source.ahead().is_drained,
@@ -431,15 +435,15 @@ impl<R: ReadAheadDevice + Drop, W: WriteDevice + Drop, Rt: Wait + Copy> ClientCo
         }
     }
 
-    /// Frees the memory of the bytes that are read ahead, if there are none.
+    /// Frees the memory for bytes that are read ahead, if no such bytes are stored.
     pub fn release_ahead(&mut self) {
         if let Some((_, _, source)) = self.next_source() {
             source.release_ahead();
         }
     }
 
-    // Returns the input, with how its next head is read. Returns `None` if a request has the input, or if no head
-    // follows.
+    // Returns the input, and the allocator and profile with which its next head is read. Returns `None` if a request
+    // has the input, or if no head follows.
     fn next_source(&mut self) -> Option<(Global, Profile, &mut Source<R>)> {
         if self.sink.is_closed() {
             return None;
@@ -466,7 +470,7 @@ impl<R: ReadAheadDevice + Drop, W: WriteDevice + Drop, Rt: Wait + Copy> ClientCo
         }
     }
 
-    // Takes the input, for which it waits while a request has it.
+    // Takes the input. If a request has it, waits until the request passes it on.
     fn hold_input(&mut self) {
         if let Some(next_head) = self.next_head.take() {
             self.next_head = Some(NextHead::Here(next_head.hold()));
@@ -477,7 +481,7 @@ impl<R: ReadAheadDevice + Drop, W: WriteDevice + Drop, Rt: Wait + Copy> ClientCo
 // The end of a head.
 const HEAD_END: &[u8] = b"\r\n\r\n";
 
-// The first bytes of a head that mostly has no body.
+// The first bytes of a head that usually has no body.
 const PLAIN_START: &[u8] = b"GET ";
 
 // The headers that announce a body.
@@ -505,7 +509,7 @@ fn announces_body(line: &[u8]) -> bool {
     })
 }
 
-// Returns what the source holds, or its reader has read ahead, of the next head.
+// Returns how much of the next head the source holds or its reader has read ahead.
 fn readiness_of<R: ReadAheadDevice>(
     alloc: Global,
     source: &Source<R>,
@@ -528,8 +532,8 @@ fn readiness_of<R: ReadAheadDevice>(
     }
 }
 
-// Returns whether the last `n` bytes that were read ahead end no line of a head that hasn't ended before them. So
-// whether the head is whole needn't be asked again.
+// Returns whether the last `n` bytes that were read ahead clearly don't complete the head: they contain no LF, no bytes
+// before them end a head, and nothing is held or to be skipped. The head needn't be parsed again then.
 fn ends_no_line<R: ReadAheadDevice>(source: &Source<R>, n: usize) -> bool {
     let ahead = source.ahead().bytes;
     let Some(new) = ahead.get(ahead.len().saturating_sub(n)..) else {
@@ -543,7 +547,7 @@ fn ends_no_line<R: ReadAheadDevice>(source: &Source<R>, n: usize) -> bool {
 }
 
 // Returns whether the next head, with a body that is read with it, can be read from the bytes that the source holds and
-// those that its reader has read ahead: reads it from a copy. Fails if memory is refused.
+// those that its reader has read ahead: reads it from a copy. Fails if memory can't be allocated.
 fn is_whole<R: ReadAheadDevice>(
     alloc: Global,
     source: &Source<R>,
@@ -564,7 +568,8 @@ fn is_whole<R: ReadAheadDevice>(
 }
 
 // Returns where the head after a request is read from, or `None` if the request is the last: from the input if `held`
-// has it, and otherwise from the input once the request that took it has passed it on. Fails if memory is refused.
+// has it, and otherwise from the input once the request that took it has passed it on. Fails if memory can't be
+// allocated.
 fn next_head<R: ReadDevice + Drop, Rt: Wait + Copy>(
     source: &mut SequentialReaderBuilder<Source<R>, Rt>,
     is_last: bool,
@@ -600,8 +605,8 @@ fn note_end(shared: &Option<Arc<SharedState>>, end: EndOfRequests) {
     }
 }
 
-// Records that a request is handed out, and returns another handle to the shared state, for a request that reads from
-// the connection. Fails if no further handle can be made.
+// Records that a request is handed out, if there is a shared state. Returns another handle to that state for a request
+// that holds the input, and otherwise `None`. Fails if no further handle can be made.
 fn begin_body(
     shared: &Option<Arc<SharedState>>,
     holds_reader: bool,
@@ -616,7 +621,7 @@ fn begin_body(
     Ok(Some(Arc::try_clone(shared)?))
 }
 
-// Sets whether flushes may hold their bytes, if there is a policy, and returns another handle to the policy, for a
+// Sets whether flushes may hold their bytes back, if there is a policy, and returns another handle to the policy, for a
 // request. Fails if no further handle can be made.
 fn set_policy(
     flush_policy: &Option<Arc<FlushPolicy>>,
@@ -657,8 +662,8 @@ impl<W: WriteDevice + Drop, Rt: Wait + Copy> RefusalPlace<SequentialWriterBuilde
     // No contract states what is under a lock.
     ghost refuses = { λ _ _ _ _ _ _. ⊤ };
 
-    // Takes the next turn, and leaves the response in it. Fails if memory is refused, if 2^64 - 1 writers have been
-    // issued, or if the connection is to end.
+    // Takes the next turn, and leaves the response in it. Fails if memory can't be allocated, if 2^64 - 1 writers have
+    // been issued, or if the connection is to end.
     fn refuse(
         &mut self,
         sink: &mut SequentialWriterBuilder<Outlet<W>, Rt>,

@@ -1,5 +1,5 @@
-//! A past value for contracts, like the standard library's `Snapshot`, but `Send` if the other fields of the type that
-//! holds it are.
+//! A past value for contracts, like the standard library's `Snapshot`. Unlike a `Snapshot`, it doesn't keep the type
+//! that holds it from being `Send`.
 ghost use Rattle.std.specs.Prelude.{◌≡◌};
 ghost use base.Fml.{ftrue};
 

@@ -166,8 +166,7 @@ impl<R: ReadDevice + Drop, W: WriteDevice + Drop, Rt: Wait + Drop> Request<R, W,
         }
     }
 
-    // Takes the request apart. Returns the parts that finish it: what is kept of the request until it is answered, and
-    // its turn.
+    // Takes the request apart, and returns what is needed to finish it: its state until the response, and its turn.
     fn into_parts(self) -> (OpenRequest<Body<R, Rt>>, SequentialWriter<Outlet<W>, Rt>)
         ensures { result.0 ≡ self.open_request }
     {
@@ -210,28 +209,28 @@ impl<R: ReadDevice + Drop, W: WriteDevice + Drop, Rt: Wait + Drop> Request<R, W,
         self.head.headers.as_slice()
     }
 
-    /// Returns the value of the first header of this name, or `None` if there is none. Names are compared without
-    /// regard to the case of ASCII letters (RFC 9110, section 5.1). Further headers of the name are ignored.
+    /// Returns the value of the first header with this name, or `None` if there is none. ASCII letter case is ignored
+    /// (RFC 9110, section 5.1). Further headers with this name are ignored.
     pub fn header(&self, name: &str) -> Option<&str>
         ensures { option_copied result ≡ value_of name.now (request_head self.now).headers.items }
     {
         self.head.header(name)
     }
 
-    /// Returns whether the headers of this name list this token. Together they form one list (RFC 9110, section 5.3),
-    /// whose elements are separated by commas and trimmed of spaces and tabs (RFC 9110, section 5.6.1). The name and
-    /// the token are compared without regard to the case of ASCII letters. An element has to be the token alone:
-    /// `gzip;q=1` isn't `gzip`.
+    /// Returns whether the headers with this name list this token. Together they form one list (RFC 9110, section 5.3),
+    /// whose elements are separated by commas and trimmed of spaces and tabs (section 5.6.1). ASCII letter case of name
+    /// and token is ignored. An element must be the token alone: `gzip;q=1` isn't `gzip`. A comma in a quoted string
+    /// separates elements, too.
     pub fn header_lists(&self, name: &str, token: &str) -> bool
         ensures { result ≡ has_element name.now token.now (request_head self.now).headers.items }
     {
         self.head.header_lists(name, token)
     }
 
-    /// Returns the path of the target, without its query, as it was sent: percent-encoded, and with `.` and `..`
-    /// segments (RFC 9112, section 3.2). It is `/a` for `/a?b` and for `http://host/a?b`, and `/` for `http://host`.
-    /// `*`, and the host and port of a `CONNECT`, are their own path. An empty target, which `Standard` refuses, has an
-    /// empty path.
+    /// Returns the path of the target, without its query, as it was sent: percent-encoded, and possibly with `.` and
+    /// `..` segments (RFC 9112, section 3.2). It is `/a` for `/a?b` and for `http://host/a?b`, and `/` for
+    /// `http://host`. `*`, and the host and port of a `CONNECT`, are their own path. An empty target, which `Standard`
+    /// refuses, has an empty path.
     pub fn path(&self) -> &str
         ensures { IsPath (request_head self.now).path result.now }
     {
@@ -248,16 +247,16 @@ impl<R: ReadDevice + Drop, W: WriteDevice + Drop, Rt: Wait + Drop> Request<R, W,
 
     /// Returns whether the head asks for an upgrade that its profile accepts (RFC 9110, section 7.8). Under `Standard`
     /// the head needs `upgrade` in `Connection`, a protocol in `Upgrade` and version 1.1, and the connection must not
-    /// end after the request; then `upgrade` to a named protocol doesn't fail with `NotAsked`. Under the other profiles
-    /// it needs a first `Connection` header that contains `upgrade`; then all that follows the head is the body,
-    /// whatever `Upgrade` names.
+    /// end after the request; then an upgrade to a protocol that `Upgrade` names doesn't fail with `NotAsked`. Under
+    /// the other profiles the first `Connection` header must contain `upgrade`; then all that follows the head is the
+    /// body, whatever `Upgrade` names.
     pub fn is_upgrade(&self) -> bool
         ensures { result ≡ is_upgrade (request_head self.now) }
     {
         self.head.is_upgrade()
     }
 
-    /// Returns the version of the request line. Under `Standard` a later version with major version 1 is 1.1.
+    /// Returns the version in the request line. Under `Standard` a version 1.x above 1.1 counts as 1.1.
     pub fn http_version(&self) -> &HTTPVersion
         ensures { result.now ≡ (request_head self.now).version }
     {
@@ -271,8 +270,7 @@ impl<R: ReadDevice + Drop, W: WriteDevice + Drop, Rt: Wait + Drop> Request<R, W,
         self.head.body_length()
     }
 
-    /// Returns the client's address. A client of a Unix socket has none, nor has one whose address the system doesn't
-    /// know.
+    /// Returns the client's address, or `None` if the client uses a Unix socket or the system doesn't know its address.
     pub fn remote_addr(&self) -> Option<&SocketAddr>
         ensures { option_copied result ≡ request_address self.now }
     {
@@ -328,17 +326,18 @@ impl<R: ReadDevice + Drop, W: WriteDevice + Drop, Rt: Wait + Drop> Request<R, W,
 
     /// Reads the body to its end, at most `most` bytes. If a 100 is owed, it is sent first, dated `now`, in the turn of
     /// the request: the call waits until the earlier requests are finished. Bytes that have already been read aren't in
-    /// the result. Memory is allocated as bytes come, and not for a stated length.
+    /// the result. Memory is allocated as bytes arrive, not in advance for a stated length.
     ///
     /// Fails with `TooLong` if more than `most` bytes are left: at once if the length is known, and then nothing is
     /// sent or read; otherwise once `most` bytes and one more have been read. Fails with `Cut` if the client's bytes
     /// end within a body of a known length or within chunks, with `Broken` if chunks break the grammar (RFC 9112,
-    /// section 7.1), with `Io` if the reader meets any other fault, including one of kind `Interrupted`, and with
-    /// `Memory` if memory is refused.
+    /// section 7.1), with `Io` for any other fault of the reader, including one of kind `Interrupted`, and with
+    /// `Memory` if memory can't be allocated.
     ///
     /// After an immediate `TooLong` nothing has changed. After any other error the bytes that were read are lost, and
-    /// the body continues at the current position. A later call reports a fault again, and `Cut` too, except for a body
-    /// of a known length under `Lenient` and `Strict`: that body is over, and a later call returns no bytes.
+    /// the body continues at the current position. After `Broken` or `Io` a later call fails again with the same error,
+    /// and so it does after `Cut`, with one exception: under `Lenient` and `Strict` a body of a known length that is
+    /// cut is over, and a later call returns no bytes.
     ///
     /// An error sends no response: a handler that returns it with `?` drops the request, which sends a 500. `BodyError`
     /// lists the status codes that fit. A body that is all that follows the head, such as that of an upgrade under each
@@ -523,9 +522,10 @@ impl<R: ReadDevice + Drop, W: WriteDevice + Drop, Rt: Wait + Drop> Request<R, W,
         Ok(self.begin_stream(protocol, response, is_whole, now))
     }
 
-    /// Upgrades as `upgrade` does, but under each profile only if the head asks for this protocol: `is_upgrade`
-    /// applies, and the `Upgrade` headers list it; otherwise it fails with `NotAsked`. If the upgrade is refused,
-    /// nothing has been sent, and the error returns the request, which can still be answered. The response is dropped.
+    /// Upgrades as `upgrade` does, but under each profile only if the head asks for this protocol: `is_upgrade` returns
+    /// true, and the `Upgrade` headers list the protocol. Otherwise it fails with `NotAsked`. If the upgrade is
+    /// refused, nothing has been sent, and the error returns the request, which can still be answered; the response is
+    /// dropped.
     pub fn try_upgrade<D: Drop>(
         self,
         protocol: &str,
@@ -572,7 +572,7 @@ impl<R: ReadDevice + Drop, W: WriteDevice + Drop, Rt: Wait + Drop> Request<R, W,
         Ok(self.begin_stream(protocol, response, is_whole, now))
     }
 
-    // Returns the shared state for the stream's reads, if it still reads from the connection.
+    // Returns the shared state for the reads of an upgraded stream, if the stream still reads from the connection.
     fn stream_timers(&self, is_whole: bool) -> Option<&Arc<SharedState>> {
         if !self.open_request.by_standard && is_whole {
             return None;
@@ -580,7 +580,8 @@ impl<R: ReadDevice + Drop, W: WriteDevice + Drop, Rt: Wait + Drop> Request<R, W,
         self.links.shared.as_ref()
     }
 
-    // Counts the connection as upgraded. Returns false if the limit of upgraded connections is reached.
+    // Counts the connection as upgraded, if the stream still reads from it. Returns false if the limit of upgraded
+    // connections has been reached.
     fn enters_stream(&self, is_whole: bool) -> bool {
         match self.stream_timers(is_whole) {
             Some(shared) => shared.enter_stream(),
@@ -594,7 +595,7 @@ impl<R: ReadDevice + Drop, W: WriteDevice + Drop, Rt: Wait + Drop> Request<R, W,
         self.writer.is_broken()
     }
 
-    // Sends the response of the upgrade, and returns the stream.
+    // Sends the response that upgrades the connection, and returns the upgraded stream.
     fn begin_stream<D: Drop>(
         self,
         protocol: &str,
@@ -653,7 +654,7 @@ impl<R: ReadDevice + Drop, W: WriteDevice + Drop, Rt: Wait + Drop> fmt::Debug
     }
 }
 
-// Returns the kind of the error for a body that this stop of its reader cuts short.
+// Returns the error kind for a body that is cut short because its reader stopped in this way.
 fn cut_kind(stop: Option<Stop>) -> ErrorKind
     ensures { IfSome stop (λ stop. result ≡ cut_kind stop) }
 {
@@ -702,8 +703,9 @@ fn alone<R: ReadDevice + Drop, Rt: Wait + Copy>(
 }
 
 /// Makes a request from these parts, without a `ClientConnection`: its body is read from `source_data`, and its
-/// response is written to `writer`. A body of up to 1024 bytes is read at once, unless a 100 is owed. `now` dates the
-/// 500 that is sent if the request is dropped. Any version is accepted, and the request is framed as under `Lenient`.
+/// response is written to `writer`. A body with a stated length of up to 1024 bytes is read at once, unless a 100 is
+/// owed. `now` dates the 500 that is sent if the request is dropped. Any version is accepted, and the request is framed
+/// as under `Lenient`.
 #[allow(clippy::too_many_arguments)]
 pub fn new_request<R: ReadDevice + Drop, W: WriteDevice + Drop, Rt: Wait + Copy>(
     rt: Rt,

@@ -16,9 +16,9 @@ use tiny_http_threads::sequential::SequentialWriter;
 /// in chunks is visibly cut, but a body for a request of version 1.0 or lower, which ends with the connection, looks
 /// whole.
 ///
-/// The call that meets the first fault of the client's writer fails with that fault. Each later call fails with
+/// The call that encounters the first fault of the client's writer fails with that fault. Each later call fails with
 /// `BrokenPipe`, and nothing more is sent on the connection. If the body isn't sent at all, only the call that sends
-/// the head can meet a fault: a program whose body has no end must check `form` first.
+/// the head can encounter a fault: a program whose body has no end must check `form` first.
 pub struct StreamedBody<W: WriteDevice + Drop, Rt: Wait + Drop> {
     body: Streamed<SequentialWriter<Outlet<W>, Rt>>,
 }
@@ -44,8 +44,8 @@ impl<W: WriteDevice + Drop, Rt: Wait + Drop> StreamedBody<W, Rt> {
         self.body.form()
     }
 
-    /// Sends what is held and the end of the body, flushes, and ends the turn of its request. A body that goes up to
-    /// the connection's end ends the connection. Fails as `write` does.
+    /// Sends what is held and the end of the body, flushes, and ends the turn of its request. If the end of the
+    /// connection ends the body (`StreamedForm::Plain`), this call ends the connection. Fails as `write` does.
     pub fn finish(self) -> io::Result<()> {
         let Self { body } = self;
         let form = body.form();

@@ -57,7 +57,7 @@ pub struct Recorder<Rt: Wait + Drop> {
 }
 
 impl<Rt: Wait + Copy> Recorder<Rt> {
-    /// Returns a recorder without bytes. Fails if memory is refused.
+    /// Returns a recorder without bytes. Fails if memory can't be allocated.
     pub fn new(rt: Rt, alloc: Global) -> Result<Recorder<Rt>, AllocError> {
         let bytes = Arc::new(alloc, Mutex::new(Vec::new(alloc)))?;
         Ok(Recorder {
@@ -68,7 +68,7 @@ impl<Rt: Wait + Copy> Recorder<Rt> {
         })
     }
 
-    /// Returns another writer to the same bytes. Fails if memory is refused.
+    /// Returns another writer to the same bytes. Fails if memory can't be allocated.
     pub fn try_clone(&self) -> Result<Recorder<Rt>, AllocError> {
         Ok(Recorder {
             rt: self.rt,
@@ -79,7 +79,7 @@ impl<Rt: Wait + Copy> Recorder<Rt> {
     }
 
     /// Returns all bytes that have been written so far, through this recorder and its clones. `answer::read_answer` of
-    /// `tiny_http` reads the responses in them. Fails if memory is refused.
+    /// `tiny_http` reads the responses in them. Fails if memory can't be allocated.
     pub fn bytes(&self) -> Result<Vec<u8>, AllocError> {
         self.bytes.lock(&self.rt).as_slice().to_vec(self.alloc)
     }
@@ -95,7 +95,7 @@ impl<Rt: Wait + Drop> WriteDevice for Recorder<Rt> {
         self.failures
     }
 
-    /// Keeps all the bytes. Fails with `OutOfMemory` if memory is refused.
+    /// Keeps all the bytes. Fails with `OutOfMemory` if memory can't be allocated.
     fn write_out(&mut self, buf: &[u8]) -> Result<usize, io::Error> {
         match self.bytes.lock(&self.rt).extend_from_slice(buf) {
             Ok(()) => Ok(buf.len()),
@@ -120,7 +120,7 @@ enum TestBody {
 }
 
 impl TestBody {
-    // Returns the bytes of the body. Fails if memory is refused.
+    // Returns the bytes of the body. Fails if memory can't be allocated.
     fn into_bytes(self, alloc: Global) -> Result<Vec<u8>, AllocError>
         ensures { IfOk result (λ v. v.items ≡ body_bytes self) }
     {
@@ -144,7 +144,7 @@ pub struct TestRequest {
     headers: Vec<Header>,
 }
 
-// Returns `Content-Length` with this length. Fails if memory is refused.
+// Returns `Content-Length` with this length. Fails if memory can't be allocated.
 fn length_header(alloc: Global, length: usize) -> Result<Header, AllocError>
     ensures { IfOk result (λ h. h ≡ length_header length) }
 {
@@ -156,7 +156,7 @@ fn length_header(alloc: Global, length: usize) -> Result<Header, AllocError>
     Ok(header)
 }
 
-// Appends a `Content-Length` with this length, unless the headers have one. Fails if memory is refused.
+// Appends a `Content-Length` with this length, unless the headers have one. Fails if memory can't be allocated.
 fn with_length(
     alloc: Global,
     headers: Vec<Header>,
@@ -172,8 +172,8 @@ fn with_length(
 }
 
 impl TestRequest {
-    /// Returns `GET /` in version 1.1 without headers or body, from 127.0.0.1:23456, not encrypted. Fails if memory is
-    /// refused.
+    /// Returns `GET /` in version 1.1 without headers or body, from 127.0.0.1:23456, not encrypted. Fails if memory
+    /// can't be allocated.
     pub fn new(alloc: Global) -> Result<TestRequest, AllocError>
         ensures head { IfOk result (λ r. (r.method ≡ Method.Get) × (r.path ≡ 47 ∷ []) × (r.version ≡ version 1 1)) }
         ensures none { IfOk result (λ r. (r.headers.items ≡ []) × (body_bytes r.body ≡ [])) }
@@ -243,7 +243,8 @@ impl TestRequest {
         request
     }
 
-    /// Sets the request target. Fails with `Refused` if the target isn't ASCII, and with `Memory` if memory is refused.
+    /// Sets the request target. Fails with `Refused` if the target isn't ASCII, and with `Memory` if memory can't be
+    /// allocated.
     pub fn with_path(self, alloc: Global, path: &str) -> Result<TestRequest, ParseError>
         ensures path { IfOk result (λ r. r ≡ record self { path = path.now }) }
         ensures refused { IsErrOf result ParseError.Refused ↔ ¬ (IsAscii path.now) }
@@ -268,7 +269,7 @@ impl TestRequest {
         request
     }
 
-    /// Appends this header. Fails if memory is refused.
+    /// Appends this header. Fails if memory can't be allocated.
     pub fn with_header(self, header: Header) -> Result<TestRequest, AllocError>
         ensures headers { IfOk result (λ r. r.headers.items ≡ self.headers.items ++ (header ∷ [])) }
         ensures body { IfOk result (λ r. r.body ≡ self.body) }

@@ -21,10 +21,10 @@ use tiny_http_io::device::ReadDevice;
 // Maximum number of bytes that are read at a time.
 const PIECE: usize = 4096;
 
-/// An error of `read_body`.
+/// An error returned by `Request::read_body`.
 #[derive(Debug, Drop, Error)]
 pub enum BodyError {
-    /// More bytes are left than the limit: 413 (RFC 9110, section 15.5.14).
+    /// More bytes are left than the limit allows: 413 (RFC 9110, section 15.5.14).
     #[error("the body is too long")]
     TooLong,
     /// The client's bytes ended within the body (RFC 9112, section 8): 400, if the client still reads.

@@ -67,7 +67,7 @@ fn replace_value(headers: &mut [Header], name: &str, value: &mut AsciiString)
 }
 
 /// Adds a header to the list of a response, or sets the length of its data, as `Response::add_header` does. If memory
-/// is refused, the error hands back the header, and nothing changes.
+/// can't be allocated, the error hands back the header, and nothing changes.
 pub(crate) fn add(
     headers: &mut Vec<Header>,
     data_length: &mut Option<usize>,
@@ -93,8 +93,8 @@ pub(crate) fn add(
     }
 }
 
-/// Adds these headers one after another. If memory for a header is refused, the error hands back that header, those
-/// before it stay in the list, and the rest are dropped.
+/// Adds these headers one after another. If memory for a header can't be allocated, the error hands back that header,
+/// those before it stay in the list, and the rest are dropped.
 pub(crate) fn add_all(
     headers: &mut Vec<Header>,
     data_length: &mut Option<usize>,

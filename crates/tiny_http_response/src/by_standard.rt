@@ -170,7 +170,7 @@ fn framing_of_304(data_length: Option<usize>) -> FramingHeader
 }
 
 // Returns the framing of a response that is only a head because of its code, under `Profile::Standard` (RFC 9110,
-// sections 8.6 and 15.3.6; RFC 9112, section 6.1): neither header for a code below 200 and a 204, length 0 for a 205,
+// sections 8.6 and 15.3.6; RFC 9112, section 6.1): no framing header for a code below 200 or a 204, length 0 for a 205,
 // and for a 304 the length of its data, if known and not 0. Returns `None` for any other code or profile.
 fn framing_by_standard(
     persistence: Option<Persistence>,
@@ -200,7 +200,7 @@ pub(crate) fn has_no_content(status: StatusCode) -> bool
 }
 
 /// Returns the framing of a response that is only a head because of its code, or `None` if it isn't. With
-/// `contentless`, a response whose code has no content has neither header, under any profile. Any other response has
+/// `contentless`, a response whose code has no content has no framing header, under any profile. Any other response has
 /// the framing that `framing_by_standard` returns, if any.
 pub(crate) fn contentless_framing(
     persistence: Option<Persistence>,

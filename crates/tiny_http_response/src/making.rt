@@ -1,4 +1,4 @@
-//! Responses made from status codes, headers made from texts, and the conversion of refused memory to `io::Error`.
+//! Responses made from status codes, headers made from texts, and the conversion of allocation failures to `io::Error`.
 ghost use Rattle.std.specs.Prelude.{◌≡◌, ◌↔◌, ◌∷◌, [], IfOk, OnOk, IsErrOf, length, string_bytes};
 ghost use Rattle.tiny_http_io.specs.Cursor.{cursor_bytes};
 ghost use Rattle.tiny_http_head.specs.HeaderTexts.{AreHeaderTexts, header_of};
@@ -12,7 +12,8 @@ use std::io::{Cursor, ErrorKind};
 use tiny_http_head::common::{Header, ParseError, StatusCode};
 use tiny_http_text::number::Numeral;
 
-// Returns the text of a response made from a status code: the code and its reason phrase. Fails if memory is refused.
+// Returns the text of a response made from a status code: the code and its reason phrase. Fails if memory can't be
+// allocated.
 #[tactic(auto, unfolding(crate::specs::Answer::status_text))]
 fn status_text(alloc: Global, status: StatusCode) -> Result<String, AllocError>
     ensures { IfOk result (λ text. string_bytes text ≡ status_text status.0) }
@@ -26,8 +27,8 @@ fn status_text(alloc: Global, status: StatusCode) -> Result<String, AllocError>
 
 impl Response<Cursor<Vec<u8>>> {
     /// Creates a response with this status code whose text is the code and its reason phrase, such as `404 Not Found`,
-    /// with `Content-Type: text/plain; charset=UTF-8` (RFC 9110, section 15). Fails if memory is refused. For a code
-    /// without content, such as 204 or 304, use `contentless`: here the text isn't sent, but its length may be.
+    /// with `Content-Type: text/plain; charset=UTF-8` (RFC 9110, section 15). Fails if memory can't be allocated. For a
+    /// code without content, such as 204 or 304, use `contentless`: here the text isn't sent, but its length may be.
     pub fn status(alloc: Global, code: StatusCode) -> Result<Response<Cursor<Vec<u8>>>, AllocError>
         ensures answer { IfOk result
             (λ r. r.answer ≡ answer_with code.0 (text_plain ∷ []) (length (status_text code.0))) }
@@ -40,9 +41,10 @@ impl Response<Cursor<Vec<u8>>> {
 
 impl<R> Response<R> {
     /// Adds the header that `Header::new` makes from this name and value, as `add_header` does, which ignores
-    /// `Connection`, `Trailer`, `Transfer-Encoding` and `Upgrade`. Fails with `Refused` exactly if the texts make no
-    /// header, and with `Memory` if memory is refused. Both errors drop the response; `with_header` hands it back. In a
-    /// function that returns `io::Result`, `?` converts them to `InvalidInput` and `OutOfMemory`.
+    /// `Connection`, `Trailer`, `Transfer-Encoding`, `Upgrade` and a malformed `Content-Length`. Fails with `Refused`
+    /// exactly if the texts make no header, and with `Memory` if memory can't be allocated. Both errors drop the
+    /// response; `with_header` hands it back. In a function that returns `io::Result`, `?` converts them to
+    /// `InvalidInput` and `OutOfMemory`.
     pub fn with(self, alloc: Global, name: &str, value: &str) -> Result<Response<R>, ParseError>
     where
         R: Drop,

@@ -15,9 +15,9 @@ pub(crate) struct OwingReader<R> {
     left: usize,
 }
 
-/// Returns the minimum length of the data of a chunked response, in bytes: under `Profile::Standard` their length, if
-/// known, otherwise 0. A chunked body without its last chunk shows the client that it is incomplete (RFC 9112, section
-/// 8).
+/// Returns the minimum length of the data of a chunked response, in bytes: under `Profile::Standard` the length of the
+/// data, if known, and otherwise 0. A chunked body without its last chunk shows the client that it is incomplete (RFC
+/// 9112, section 8).
 pub(crate) fn owed(persistence: Option<Persistence>, data_length: Option<usize>) -> usize
     ensures { result ≡ owed persistence data_length }
 {

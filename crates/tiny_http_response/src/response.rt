@@ -56,7 +56,7 @@ pub struct Response<R> {
     contentless: bool,
 }
 
-/// A response whose data come from a boxed reader of any type (as in the Rust crate).
+/// A response whose data comes from a boxed reader of any type (as in the Rust crate).
 pub type ResponseBox = Response<Metered<Box<dyn Read + Send + Drop>>>;
 
 impl<R> Model for Response<R> {
@@ -81,13 +81,13 @@ impl<R> Model for Response<R> {
     ghost invariant = { λ r. IsResponseHeaders r.headers.items };
 }
 
-/// The default chunked threshold: data of this length in bytes or more are sent in chunks (as in the Rust crate),
+/// The default chunked threshold, in bytes: data of at least this length is sent in chunks (as in the Rust crate),
 /// unless `coding::choose` requires otherwise. To send data of any known length, such as a file, with a
 /// `Content-Length`, use `with_chunked_threshold(usize::MAX)`; a request may still get chunks if its `TE` asks for
 /// them.
 pub const THRESHOLD: usize = 32768;
 
-// Returns the header `Content-Type: text/plain; charset=UTF-8`. Fails if memory is refused.
+// Returns the header `Content-Type: text/plain; charset=UTF-8`. Fails if memory can't be allocated.
 #[tactic(auto, unfolding(crate::specs::Answer::text_plain))]
 fn text_plain(alloc: Global) -> Result<Header, AllocError>
     ensures { IfOk result (λ h. h ≡ text_plain) }
@@ -115,8 +115,9 @@ impl<F: Read + OpenFile> Response<Metered<F>> {
 }
 
 impl Response<Cursor<Vec<u8>>> {
-    /// Creates a 200 response with this text as its data, of known length, and `Content-Type: text/plain;
-    /// charset=UTF-8` (as in the Rust crate). Fails if memory for that header is refused.
+    /// Creates a 200 response with this text as its data, of known length, and
+    /// `Content-Type: text/plain; charset=UTF-8` (as in the Rust crate). Fails if memory for that header can't be
+    /// allocated.
     pub fn from_string(alloc: Global, text: String) -> Result<Response<Cursor<Vec<u8>>>, AllocError>
         ensures answer { IfOk result (λ r. r.answer ≡ answer_with 200 (text_plain ∷ []) (string_len text)) }
         ensures bytes { IfOk result (λ r. cursor_bytes r.data_reader ≡ string_bytes text) }
@@ -137,7 +138,7 @@ impl Response<Cursor<Vec<u8>>> {
 }
 
 impl Response<io::Empty> {
-    /// Creates a response with this status code, no headers and no data, of length 0. Allocates nothing.
+    /// Creates a response with this status code, no headers, and empty data of known length 0. Allocates nothing.
     pub fn empty(alloc: Global, status: StatusCode) -> Response<io::Empty>
         ensures { result.answer ≡ answer_with status.0 [] 0 }
     {
@@ -164,7 +165,7 @@ impl Response<io::Empty> {
         Response::empty(alloc, status)
     }
 
-    /// Copies the response. Fails if memory is refused.
+    /// Copies the response. Fails if memory can't be allocated.
     pub fn try_clone(&self) -> Result<Response<io::Empty>, AllocError>
         ensures { IfOk result (λ r. r ≡ self.now) }
     {
@@ -182,7 +183,7 @@ impl Response<io::Empty> {
     }
 }
 
-// Copies a text, if there is one. Fails if memory is refused.
+// Copies a text, if there is one. Fails if memory can't be allocated.
 fn copy_of(text: &Option<AsciiString>) -> Result<Option<AsciiString>, AllocError>
     ensures { IfOk result (λ copy. copy ≡ text.now) }
 {
@@ -192,7 +193,7 @@ fn copy_of(text: &Option<AsciiString>) -> Result<Option<AsciiString>, AllocError
     }
 }
 
-// Copies the headers into a list whose capacity is their number. Fails if memory is refused.
+// Copies the headers into a list whose capacity is their number. Fails if memory can't be allocated.
 fn copies_of(alloc: Global, headers: &[Header]) -> Result<Vec<Header>, AllocError>
     ensures { IfOk result (λ list. list.items ≡ headers.now) }
 {
@@ -203,15 +204,15 @@ fn copies_of(alloc: Global, headers: &[Header]) -> Result<Vec<Header>, AllocErro
     Ok(list)
 }
 
-/// The error of `Response::new` if memory for a header is refused. It hands back the reader of the data.
+/// The error of `Response::new` if memory for a header can't be allocated. It hands back the reader of the data.
 #[derive(Drop)]
 pub struct Refused<R> {
     /// The reader of the data, unchanged.
     pub reader: R,
 }
 
-/// The error of `Response::with_header` if memory for the header is refused. It hands back the response and the header,
-/// both unchanged.
+/// The error of `Response::with_header` if memory for the header can't be allocated. It hands back the response and the
+/// header, both unchanged.
 #[derive(Drop)]
 pub struct NotAdded<R> {
     /// The response, without the header.
@@ -246,8 +247,8 @@ impl<R> Response<R> {
 
     /// Creates a response with this status code and data; `data_length` is the length of the data in bytes, if known.
     /// Adds each of `headers` and then each of `more` as `add_header` does. The list reuses the allocation of
-    /// `headers`, so memory is needed only for headers of `more` that are appended. If it is refused, the error hands
-    /// back the reader of the data.
+    /// `headers`, so memory is needed only for headers of `more` that are appended. If that memory can't be allocated,
+    /// the error hands back the reader of the data.
     pub fn new(
         status: StatusCode,
         mut headers: Vec<Header>,
@@ -308,7 +309,7 @@ impl<R> Response<R> {
         }
     }
 
-    /// Sets the chunked threshold: data of this length in bytes or more are sent in chunks. Shorter data are sent with
+    /// Sets the chunked threshold, in bytes: data of at least this length is sent in chunks. Shorter data is sent with
     /// a `Content-Length`. The request's version, its `TE` and the status code may require otherwise
     /// (`coding::choose`).
     pub fn with_chunked_threshold(self, length: usize) -> Response<R>
@@ -319,11 +320,11 @@ impl<R> Response<R> {
         response
     }
 
-    /// Offers to upgrade to these protocols, in place of any offered before: a list such as `websocket` or `h2c,
-    /// foo/2`. A 426 must have one (RFC 9110, sections 7.8 and 15.5.22). Under `Profile::Standard` the response sends
-    /// it in `Upgrade`, with a space in place of each byte that isn't allowed in a field value, and names `upgrade` in
-    /// `Connection`. The offer is omitted under any other profile, in the response of an upgrade, and with a code below
-    /// 200.
+    /// Offers to upgrade to these protocols, in place of any offered before. The offer is a list, such as `websocket`
+    /// or `h2c, foo/2`. A 426 must have one (RFC 9110, sections 7.8 and 15.5.22). Under `Profile::Standard` the offer
+    /// is sent in `Upgrade`, with a space in place of each byte that isn't allowed in a field value, and `Connection`
+    /// names `upgrade`. It is omitted under any other profile, in a response that upgrades the connection, and with a
+    /// code below 200.
     pub fn with_upgrade_offer(self, protocols: AsciiString) -> Response<R>
         ensures { result ≡ record self { answer = record self.answer { offered = Some protocols } } }
     {
@@ -333,11 +334,13 @@ impl<R> Response<R> {
     }
 
     /// Closes the connection after this response (RFC 9112, section 9.6). Once a `Connection` or a `Request` has sent
-    /// it, no further request is handed out; requests already handed out can still be answered. Under
-    /// `Profile::Standard` the last response on the connection (this one, if no later request has been handed out) has
-    /// `Connection: close`, unless its request was already dropped, is upgraded, or has its raw writer taken. With
-    /// `Request`s, a socket's client sees end of file after the last response; a `Connection` closes nothing. Upgrades
-    /// and `Exchange` ignore this setting, and it doesn't change the bytes that `raw_print` and `print` print.
+    /// it, no further request is handed out; requests already handed out can still be answered.
+    ///
+    /// Under `Profile::Standard` the last response on the connection (this one, or the response to a later request or
+    /// refused head) has `Connection: close`, unless it is for a later request that was already dropped, is upgraded,
+    /// or has its raw writer taken. With `Request`s, a socket's client sees end of file after the last response; a
+    /// `Connection` closes nothing. Upgrades and `Exchange` ignore this setting, and it doesn't change the bytes that
+    /// `raw_print` and `print` print.
     pub fn with_close(self) -> Response<R>
         ensures { result ≡ record self { answer = record self.answer { closes = true } } }
     {
@@ -349,8 +352,8 @@ impl<R> Response<R> {
     /// Adds a header (as in the Rust crate). `Connection`, `Trailer`, `Transfer-Encoding` and `Upgrade` are ignored, in
     /// any letter case. `Content-Length` sets the length of the data if its value is an optional `+` and digits, at
     /// most 2^64 - 1; otherwise it is ignored. A second `Content-Type` replaces the value of the first, in place. Any
-    /// other header is appended. Only appending needs memory: if memory is refused, the error hands back the header,
-    /// and the response is unchanged.
+    /// other header is appended. Only appending needs memory: if memory can't be allocated, the error hands back the
+    /// header, and the response is unchanged.
     pub fn add_header(&mut self, header: Header) -> Result<(), Header>
         ensures added { OnOk result (self.new ≡ record self.old { answer = add_header header self.old.answer }) }
         ensures refused { IfErr result (λ h. (h ≡ header) × (self.new ≡ self.old)) }
@@ -359,7 +362,8 @@ impl<R> Response<R> {
         add(&mut self.headers, &mut self.data_length, header)
     }
 
-    /// Adds a header as `add_header` does, and returns the response. If memory is refused, the error hands back both.
+    /// Adds a header as `add_header` does, and returns the response. If memory can't be allocated, the error hands back
+    /// both.
     pub fn with_header(mut self, header: Header) -> Result<Response<R>, NotAdded<R>>
         ensures added { IfOk result (λ r. r ≡ record self { answer = add_header header self.answer }) }
         ensures refused { IfErr result (λ e. (e.response ≡ self) × (e.header ≡ header)) }
@@ -424,24 +428,25 @@ impl<R> Response<R> {
         self.closes
     }
 
-    /// Returns the length in bytes from which on data are sent in chunks: `THRESHOLD` unless another was set.
+    /// Returns the minimum length, in bytes, of data that is sent in chunks: `THRESHOLD` unless another was set.
     pub fn chunked_threshold(&self) -> usize
         ensures { result ≡ self.now.answer.threshold }
     {
         self.threshold
     }
 
-    /// Prints the head and the body of the response to a request with this version and these headers, dated `now` (RFC
-    /// 9112, sections 4 to 7). With `upgrade`, prints the head alone. The body is omitted if `no_body` is set, as for a
-    /// `HEAD`, or if the code is 100 to 199, 204 or 304. `coding::choose` chooses the coding, given the request's
-    /// version and `TE`, the code, the length of the data, and the threshold. Doesn't flush.
+    /// Prints the head, dated `now`, and the body of the response to a request with this version and these headers (RFC
+    /// 9112, sections 4 to 7). With `upgrade`, prints only a head, which upgrades the connection to that protocol. The
+    /// body is omitted if `no_body` is set, as for a `HEAD`, or if the code is 100 to 199, 204 or 304. `coding::choose`
+    /// chooses the coding, given the request's version and `TE`, the code, the length of the data, and the threshold.
+    /// Doesn't flush.
     ///
     /// Fails with the first fault, of the writer or of the data, and writes nothing after it. Fails with
-    /// `UnexpectedEof` if the data end before their length, unless the body is omitted or sent in chunks. If the coding
-    /// is `Identity`, data of unknown length are read whole before the head, even if the body is omitted (but not for
-    /// an upgrade, nor for a code without content if `contentless` made the response): if the data fail, or if memory
-    /// is refused (`OutOfMemory`), nothing is written. Fails with `InvalidInput`, and writes nothing, if the protocol
-    /// to upgrade to isn't ASCII.
+    /// `UnexpectedEof` if the data ends before `data_length` bytes, unless the body is omitted or sent in chunks. If
+    /// the coding is `Identity`, data of unknown length is read entirely before the head is written, even if the body
+    /// is omitted (but not for an upgrade, nor for a code without content if `contentless` made the response). If
+    /// reading fails, or if memory can't be allocated (`OutOfMemory`), nothing is written. Fails with `InvalidInput`,
+    /// and writes nothing, if the protocol to upgrade to isn't ASCII.
     pub fn raw_print<W: WriteDevice>(
         self,
         alloc: Global,
@@ -476,12 +481,14 @@ impl<R> Response<R> {
         self.print(alloc, writer, context, upgrade, now)
     }
 
-    /// Prints the head and the body as `raw_print` does, with the properties of the request that `context` keeps. If
-    /// `context.persistence` is `Some`, the response follows `Profile::Standard`: the status line has version 1.1, each
-    /// header takes one line, and `Connection` comes before the response's headers if needed, except for an upgrade and
-    /// a code below 200. No data are read for a code below 200, a 204, a 205 or a 304. In chunks, too, printing fails
-    /// with `UnexpectedEof` if the data end before their length; without the last chunk the client sees that the
-    /// response is incomplete (RFC 9112, section 8).
+    /// Prints the head and the body as `raw_print` does, with the properties of the request that `context` keeps.
+    ///
+    /// If `context.persistence` is `Some`, the response follows `Profile::Standard`. The status line has version 1.1. A
+    /// header whose name isn't a token is omitted, and each other header takes one line. Except for an upgrade and a
+    /// code below 200, `Connection` and `Upgrade` come before the response's headers if they are needed. A response
+    /// with a code below 200, a 204, a 205 or a 304 is only a head, and its data isn't read. In chunks, too, printing
+    /// fails with `UnexpectedEof` if the data ends before `data_length` bytes; without the last chunk the client sees
+    /// that the response is incomplete (RFC 9112, section 8).
     pub fn print<W: WriteDevice>(
         self,
         alloc: Global,
@@ -548,7 +555,7 @@ impl<R> Response<R> {
     /// From version 1.1 on the head has `Transfer-Encoding: chunked`, even for a `HEAD`, unless the code has no
     /// content. For a version up to 1.0, or a code without content, the head has neither a length nor a coding (RFC
     /// 9112, section 6). Under `Profile::Standard`, which the head follows if `print` would, a 205 has a
-    /// `Content-Length` of 0, and a code below 100 has neither a length nor a coding. The data, their length and the
+    /// `Content-Length` of 0, and a code below 100 has neither a length nor a coding. The data, its length and the
     /// threshold are ignored. Fails with the writer's first fault, and writes nothing after it. Doesn't flush.
     pub fn print_head<W: WriteDevice>(
         &self,
@@ -632,7 +639,7 @@ fn print_bytes<W: WriteDevice>(
     put(writer, bytes)
 }
 
-// Prints a response of unknown length without a transfer coding: reads the data whole first, and states their length.
+// Prints a response of unknown length without a transfer coding: reads all the data first, and states its length.
 fn print_gathered<D: ReadDevice, W: WriteDevice>(
     alloc: Global,
     source: &mut D,

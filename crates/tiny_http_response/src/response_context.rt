@@ -10,7 +10,7 @@ use tiny_http_head::common::{HTTPVersion, StatusCode};
 /// The persistence of a connection, as a response states it (RFC 9112, section 9.3).
 #[derive(Clone, Copy, Debug, PartialEq, Eq)]
 pub enum Persistence {
-    /// The connection persists. A response to HTTP/1.1 needs no header for that.
+    /// The connection persists. A response to an HTTP/1.1 request needs no header to state that.
     Persistent,
     /// The server closes the connection after the response.
     Close,
@@ -26,19 +26,22 @@ pub struct ResponseContext {
     pub asked_coding: Option<Coding>,
     /// Whether the response has no body because the request is a `HEAD`.
     pub no_body: bool,
-    /// The persistence that the response states for its connection (RFC 9112, section 9.6). `Some` prints the response
-    /// as `Profile::Standard` requires. `None` prints it as the Rust crate does: with the request's version in the
-    /// status line and with the response's headers unchanged. The response then has a length or a coding even if its
-    /// code has no content, unless the response is an upgrade, its body is streamed, or `Response::contentless` made
-    /// it.
+    /// The persistence that the response states for its connection (RFC 9112, section 9.6). With `Some`, the response
+    /// is printed as `Profile::Standard` requires. With `None`, it is printed as in the Rust crate: with the request's
+    /// version in the status line and the response's headers unchanged. It then has `Content-Length` or
+    /// `Transfer-Encoding` even if its code has no content, unless it is an upgrade, its body is streamed, or
+    /// `Response::contentless` made it.
     pub persistence: Option<Persistence>,
 }
 
 impl ResponseContext {
-    /// Returns how the body of a streamed response with this status code is sent. `Absent`: not at all, for a `HEAD`,
-    /// for a code without content, or under `Profile::Standard` for a 205 or a code below 100. `Plain`: as is, in any
-    /// other response to a version up to 1.0; the end of the connection ends the body (RFC 9112, section 6.3).
-    /// `Chunks`: in chunks, in any other response to a later version (section 7.1).
+    /// Returns how the body of a streamed response with this status code is sent:
+    ///
+    /// - `Absent`: not at all, for a `HEAD`, for a code without content, or under `Profile::Standard` for a 205 or a
+    ///   code below 100.
+    /// - `Plain`: as is, in any other response to a request of version 1.0 or lower. The end of the connection ends the
+    ///   body (RFC 9112, section 6.3).
+    /// - `Chunks`: in chunks, in any other response to a request of a later version (RFC 9112, section 7.1).
     pub fn streamed_form(&self, status: StatusCode) -> StreamedForm
         ensures { result ≡ streamed_form self.now status.0 }
     {

@@ -19,9 +19,9 @@ use std::io::ErrorKind;
 use tiny_http_io::device::{ReadDevice, WriteDevice};
 use tiny_http_io::outlet::Outlet;
 
-// Ends an outlet after a fault in printing, before which the writer's failure count was `failures`. If the count is
-// unchanged, the fault was not the writer's: the held bytes are sent, and a failure in sending them isn't reported.
-// Otherwise the held bytes are discarded.
+// Ends an outlet after a fault in printing. `failures` is the writer's failure count from before the printing. If the
+// count is unchanged, the fault wasn't the writer's: the buffered bytes are sent, and a failure to send them isn't
+// reported. Otherwise the buffered bytes are discarded.
 fn end_behind_fault<W: WriteDevice>(outlet: &mut Outlet<W>, failures: u64)
     ensures ends { MatchBool ((output_of outlet.old).failures == failures)
         (EndsQuietly (output_of outlet.old) (output_of outlet.new))
@@ -69,9 +69,10 @@ fn send_printed<W: WriteDevice, D: ReadDevice + Drop>(
     outlet.flush()
 }
 
-/// Prints a response and flushes it. Fails with the first fault, of the data or of the writer, or with `OutOfMemory` if
-/// memory for data of unknown length is refused. After an error nothing more is sent on the connection; unless the
-/// writer failed, the bytes that were held are still sent.
+/// Prints a response and flushes it. Fails with the first fault, of the data or of the writer, with `UnexpectedEof` if
+/// the data ends too early (as `Response::print` does), or with `OutOfMemory` if memory for data of unknown length
+/// can't be allocated. After an error nothing more is sent on the connection, except the bytes already buffered, which
+/// are still sent unless the writer failed.
 pub fn send<W: WriteDevice, D: ReadDevice + Drop>(
     alloc: Global,
     outlet: &mut Outlet<W>,
@@ -139,10 +140,10 @@ pub fn reported(sent: Result<(), io::Error>) -> Result<(), io::Error>
 }
 
 /// Prints the response that upgrades the connection to a protocol, and flushes it (RFC 9110, section 7.8): the head
-/// alone, with `Connection: upgrade` and `Upgrade: PROTOCOL` before the other headers. The data are dropped unread.
+/// alone, with `Connection: upgrade` and `Upgrade: PROTOCOL` before the other headers. The data is dropped unread.
 /// Fails with `InvalidInput`, and sends nothing of the response, if the protocol isn't ASCII; otherwise with the
-/// writer's first fault. After an error nothing more is sent on the connection, except the bytes that were held before
-/// an `InvalidInput`. Allocates nothing.
+/// writer's first fault. After an error nothing more is sent on the connection, except that after `InvalidInput` the
+/// bytes already buffered are still sent. Allocates nothing.
 pub fn send_upgrade<W: WriteDevice, D: Drop>(
     alloc: Global,
     outlet: &mut Outlet<W>,
@@ -151,7 +152,7 @@ pub fn send_upgrade<W: WriteDevice, D: Drop>(
     protocol: &str,
     now: HttpDate,
 ) -> Result<(), io::Error>
-    // Holds whatever the data are: they aren't read.
+    // Holds whatever the data is: it isn't read.
     ensures sends { (content : Feed) → CanSend (output_of outlet.old)
         → SendsText (output_of outlet.old) (output_of outlet.new) (outlet_ended outlet.new) result
         (text_of response.answer content (upgrading protocol.now (printing_in response_context now))) }

@@ -14,10 +14,10 @@ use std::rt::Files;
 use std::time::Duration;
 use std::{fmt, fs, io};
 
-/// The file-system operations that a server needs for Unix sockets. Any runtime with files and sockets implements it. A
-/// `Files` bound instead would not let generic code share a server among threads.
+/// The file-system operations that a server needs for Unix sockets. Any runtime with files and sockets implements this
+/// trait. Unlike a `Files` bound, the trait lets generic code share a server among threads.
 pub trait SocketFiles {
-    /// Listens at this path, where it creates a file. Fails with the system's error.
+    /// Listens on this path, where it creates a file. Fails with the system's error.
     fn bind_unix(&self, path: Path<'_>) -> io::Result<unix_net::UnixListener>;
 
     /// Removes the file at this path. Fails with the system's error.
@@ -29,7 +29,7 @@ pub trait SocketFiles {
 }
 
 impl<R: Files + Net> SocketFiles for R {
-    /// Listens at this path, by a system call.
+    /// Listens on this path, by a system call.
     fn bind_unix(&self, path: Path<'_>) -> io::Result<unix_net::UnixListener> {
         unix_net::UnixListener::bind(self, path)
     }
@@ -298,7 +298,7 @@ impl From<unix_net::UnixStream> for Connection {
     }
 }
 
-/// The configured address at which a server listens.
+/// The configured address on which a server listens.
 #[derive(Debug, Drop)]
 pub enum ConfigListenAddr {
     /// The first of these addresses that can be bound.
@@ -308,8 +308,8 @@ pub enum ConfigListenAddr {
 }
 
 impl ConfigListenAddr {
-    /// Resolves the addresses to listen at. Fails with the system's error if a host name isn't found or a text isn't an
-    /// address, or with `OutOfMemory` if memory is refused.
+    /// Resolves the addresses to listen on. Fails with the system's error if a host name isn't found, with
+    /// `InvalidInput` if a text isn't an address, or with `OutOfMemory` if memory can't be allocated.
     pub fn from_socket_addrs<R: Net, A: ToSocketAddrs>(
         rt: &R,
         alloc: Global,
@@ -326,7 +326,7 @@ impl ConfigListenAddr {
         ConfigListenAddr::Unix(path)
     }
 
-    /// Copies the address. Fails if memory is refused.
+    /// Copies the address. Fails if memory can't be allocated.
     pub fn try_clone(&self) -> Result<ConfigListenAddr, AllocError>
         ensures { IfOk result (λ copy. IsCopyOf self.now copy) }
     {
@@ -339,7 +339,7 @@ impl ConfigListenAddr {
         }
     }
 
-    /// Listens at the first of the addresses that can be bound, or at the path, where it creates a file. Fails with the
+    /// Listens on the first of the addresses that can be bound, or on the path, where it creates a file. Fails with the
     /// system's error for the last address if none can be bound, or for the path if the path can't be bound. Fails with
     /// `InvalidInput` if there is no address or if the path is too long.
     pub fn bind<R: Net<Listener = TcpListener, Stream = TcpStream> + SocketFiles>(
@@ -357,7 +357,7 @@ impl ConfigListenAddr {
     }
 }
 
-// Listens at the first of these addresses that can be bound. Connections that aren't accepted yet wait in the longest
+// Listens on the first of these addresses that can be bound. Connections that aren't accepted yet wait in the longest
 // queue that the system allows; that of `std::net` has room for 128.
 fn listen<R: Net>(rt: &R, addrs: &[SocketAddr]) -> io::Result<TcpListener> {
     let mut fault = io::Error::from(ErrorKind::InvalidInput);
@@ -374,7 +374,7 @@ fn listen<R: Net>(rt: &R, addrs: &[SocketAddr]) -> io::Result<TcpListener> {
     Err(fault)
 }
 
-/// The address at which a server listens.
+/// The address on which a server listens.
 #[derive(Clone, Debug, Drop)]
 pub enum ListenAddr {
     /// An IP address and a port.

@@ -46,7 +46,7 @@ impl FlushPolicy {
         self.may_leave.load(Ordering::SeqCst)
     }
 
-    // Makes each later flush send its bytes. Returns whether bytes may have been left since the last call.
+    // Makes each later write and flush send its bytes. Returns whether bytes may have been left since the last call.
     fn stop_and_take(&self) -> bool {
         self.send_at_flush();
         self.may_wait.swap(false, Ordering::SeqCst)
@@ -75,7 +75,7 @@ pub struct Cork<W: WriteBoth + Drop> {
 }
 
 impl<W: WriteBoth + Drop> Cork<W> {
-    // Wraps a writer with an empty buffer. Fails if memory is refused.
+    // Wraps a writer with an empty buffer. Fails if memory can't be allocated.
     fn new(alloc: Global, writer: W) -> Result<Cork<W>, AllocError> {
         let corked = Corked::new(alloc, writer)?;
         let flush_policy = Arc::new(alloc, FlushPolicy::new())?;
@@ -91,9 +91,9 @@ impl<W: WriteBoth + Drop> Cork<W> {
         &self.flush_policy
     }
 
-    /// Makes each later flush send its bytes, and sends the bytes that earlier flushes and writes left. May wait for
-    /// the socket, but not for another thread: if another thread holds the lock, asks that thread to send the bytes. A
-    /// fault is reported by the next write, or by the next flush that sends.
+    /// Makes each later write and flush send its bytes, and sends the bytes that earlier ones left buffered. May wait
+    /// for the socket, but not for another thread: if another thread holds the lock, asks that thread to send the
+    /// bytes. A fault is reported by the next write, or by the next flush that sends.
     pub fn send(&self) {
         if !self.flush_policy.stop_and_take() {
             return;
@@ -125,7 +125,7 @@ impl<W: WriteBoth + Drop> Cork<W> {
     }
 
     /// Frees the memory of the buffer, if no bytes are buffered and no thread holds the lock. The next write that needs
-    /// it takes it again.
+    /// it allocates it again.
     pub fn release(&self) {
         if let Some(mut corked) = self.corked.try_lock() {
             corked.release();
@@ -211,18 +211,18 @@ impl<W: WriteBoth + Drop, Rt: Wait> WriteDevice for CorkedWriter<W, Rt> {
         self.failures
     }
 
-    /// Takes some bytes of `buf`, and returns their number. Buffers all of `buf` if a flush may leave its bytes and
-    /// they fit; otherwise sends the buffered bytes with some bytes of `buf`. Fails with the writer's fault, or with an
-    /// earlier fault in sending buffered bytes that no call has reported. Once a fault has been reported, each write
-    /// discards its bytes and returns `Ok`.
+    /// Takes some bytes of `buf`, and returns their number. Buffers all of `buf` if a flush may leave its bytes, they
+    /// fit, and memory for the buffer can be allocated; otherwise sends the buffered bytes with some bytes of `buf`.
+    /// Fails with the writer's fault, or with an earlier fault in sending buffered bytes that no call has reported.
+    /// Once a fault has been reported, each write discards its bytes and returns `Ok`.
     fn write_out(&mut self, buf: &[u8]) -> Result<usize, io::Error> {
         let written = self.cork.write(&self.rt, buf);
         self.count(&written);
         written
     }
 
-    /// Sends the buffered bytes, unless a flush may leave them. A flush that sends also fails with an earlier fault
-    /// that no call has reported.
+    /// Sends the buffered bytes, unless a flush may leave them. A flush that sends fails with the writer's fault, or
+    /// with an earlier fault that no call has reported.
     fn flush_out(&mut self) -> Result<(), io::Error> {
         let sent = self.cork.flush(&self.rt);
         self.count(&sent);
@@ -285,13 +285,13 @@ impl<R: ReadDevice + Drop, W: WriteBoth + Drop> ReadAheadDevice for FlushingRead
         self.ahead.read_ahead()
     }
 
-    /// Frees the memory of the bytes that are read ahead, if none is held.
+    /// Frees the memory for bytes that are read ahead, if no such bytes are held.
     fn release_ahead(&mut self) {
         self.ahead.release()
     }
 }
 
-/// Creates the two halves of a connection over this reader and this writer. Fails if memory is refused.
+/// Creates the two halves of a connection over this reader and this writer. Fails if memory can't be allocated.
 pub fn halves<R: ReadDevice + Drop, W: WriteBoth + Drop, Rt: Wait + Drop>(
     rt: Rt,
     alloc: Global,

@@ -28,9 +28,9 @@ enum State {
 }
 
 /// A writer that buffers up to 16,384 bytes. It sends the buffered bytes before bytes that don't fit, and in
-/// `flush_out`, `write_past` and `send_waiting`. After its first fault it sends nothing. The write or flush that met
-/// the fault reports it; if `send_waiting` met it, the next write or flush does. After that report each write discards
-/// its bytes and returns `Ok`, and each flush returns `Ok`.
+/// `flush_out`, `write_past` and `send_waiting`. After its first fault it sends nothing. The write or flush that
+/// encountered the fault reports it; if `send_waiting` encountered it, the next write or flush does. After that report
+/// each write discards its bytes and returns `Ok`, and each flush returns `Ok`.
 #[derive(Drop)]
 pub struct Corked<W: WriteBoth> {
     writer: W,
@@ -60,7 +60,7 @@ impl<W: WriteBoth> Model for Corked<W> {
 impl<W: WriteBoth + Drop> Corked<W> {
     ghost use Rattle.tiny_http_socket.specs.Corked.{corked_sink, unreported};
 
-    /// Wraps a writer with an empty buffer and no failures counted. Fails if memory is refused.
+    /// Wraps a writer with an empty buffer and no failures counted. Fails if memory can't be allocated.
     pub fn new(alloc: Global, writer: W) -> Result<Corked<W>, AllocError>
         ensures writer { IfOk result (λ c. (c.writer ≡ writer) × (c.sink ≡ W.sink writer)) }
         ensures none { IfOk result (λ c. (c.waiting ≡ []) × (unreported c ≡ None)) }
@@ -88,7 +88,7 @@ impl<W: WriteBoth> Corked<W> {
         self.waiting.as_slice()
     }
 
-    /// Frees the memory of the buffer, if no bytes are buffered. The next write that needs it takes it again.
+    /// Frees the memory of the buffer, if no bytes are buffered. The next write that needs it allocates it again.
     pub fn release(&mut self)
         ensures { self.new ≡ self.old }
     {
@@ -175,8 +175,9 @@ impl<W: WriteBoth> Corked<W> {
         }
     }
 
-    // Takes some bytes of `buf`, at least one unless `buf` is empty, and returns their number. If they don't fit, sends
-    // the buffered bytes with them. A fault ends the writer.
+    // Takes some bytes of `buf`, at least one unless `buf` is empty, and returns their number. If `buf` doesn't fit, or
+    // if memory for the buffer can't be allocated, sends the buffered bytes with some bytes of `buf`. A fault ends the
+    // writer.
     fn take_some(&mut self, buf: &[u8]) -> Result<usize, io::Error>
         requires open { self.old.state ≡ Open }
         ensures puts { PutsFront (corked_sink self.old) (corked_sink self.new) result buf.now }
@@ -257,8 +258,9 @@ impl<W: WriteBoth> WriteDevice for Corked<W> {
         self.failures
     }
 
-    /// Buffers all bytes of `buf` if they fit. Otherwise sends the buffered bytes with some bytes of `buf`. Fails with
-    /// the inner writer's fault, or, without taking a byte, with one that `send_waiting` met and no call has reported.
+    /// Buffers all bytes of `buf` if they fit and memory for the buffer can be allocated. Otherwise sends the buffered
+    /// bytes with some bytes of `buf`. Fails with the inner writer's fault, or, without taking a byte, with one that
+    /// `send_waiting` encountered and no call has reported.
     fn write_out(&mut self, buf: &[u8]) -> Result<usize, io::Error>
         ensures puts { PutsFront (corked_sink self.old) (corked_sink self.new) result buf.now }
         ensures fault { self.old.state ≡ Open
@@ -276,7 +278,7 @@ impl<W: WriteBoth> WriteDevice for Corked<W> {
     }
 
     /// Sends the buffered bytes, and flushes the inner writer. Fails with the inner writer's fault, or with one that
-    /// `send_waiting` met and no call has reported.
+    /// `send_waiting` encountered and no call has reported.
     fn flush_out(&mut self) -> Result<(), io::Error>
         ensures puts { Puts (corked_sink self.old) (corked_sink self.new) result [] }
         ensures sent { OnOk result ((corked_sink self.new).has_ended ≡ false → HoldsNothing (corked_sink self.new)) }

@@ -25,8 +25,8 @@ pub trait BeforeRead {
         ensures { Self.does self.old self.new };
 }
 
-/// A reader that reads ahead up to 16,384 bytes at once. It calls the inner reader only if a byte is requested and none
-/// is held.
+/// A reader that reads ahead up to 16,384 bytes at once, and holds them until they are requested. `read_after` calls
+/// the inner reader only if a byte is requested and none is held; `read_ahead` calls it even if bytes are held.
 #[derive(Drop)]
 pub struct ReadAhead<R: ReadDevice> {
     reader: R,
@@ -34,7 +34,7 @@ pub struct ReadAhead<R: ReadDevice> {
     piece: Vec<u8>,
     start: usize,
     end: usize,
-    // Whether the last read of the inner reader returned fewer bytes than it asked for, but not none, or failed.
+    // Whether the last read from the inner reader returned at least one byte but fewer than it asked for, or failed.
     is_drained: bool,
 }
 
@@ -48,12 +48,12 @@ impl<R: ReadDevice> Model for ReadAhead<R> {
     ghost view = { λ a. record
         { held = take (a.end - a.start) (drop a.start a.piece.items); reader = a.reader; feed = R.feed a.reader } };
 
-    // The memory is whole, or there is none.
+    // The memory for a whole piece is allocated, or none is.
     ghost invariant = { λ a. (a.start ≤ a.end) × (a.end ≤ vec_len a.piece)
         × ((vec_len a.piece ≡ PIECE) ⊎ (vec_len a.piece ≡ 0)) };
 }
 
-// Takes the memory for a piece, if it was freed. Returns false, with nothing changed, if memory is refused.
+// Allocates the memory for a piece, if it was freed. Returns false, with nothing changed, if memory can't be allocated.
 fn take_piece(piece: &mut Vec<u8>) -> bool
     requires { (vec_len piece.old ≡ PIECE) ⊎ (vec_len piece.old ≡ 0) }
     ensures taken { result ≡ true → vec_len piece.new ≡ PIECE }
@@ -84,7 +84,7 @@ fn move_to_front(piece: &mut [u8], start: usize, end: usize)
     }
 }
 
-// Reads once into the room after the first `end` bytes of a piece, and returns how many bytes came.
+// Reads once into the room after the first `end` bytes of a piece, and returns the number of bytes read.
 fn read_after_held<R: ReadDevice>(
     reader: &mut R,
     piece: &mut [u8],
@@ -105,7 +105,7 @@ fn read_after_held<R: ReadDevice>(
 impl<R: ReadDevice + Drop> ReadAhead<R> {
     ghost use Rattle.tiny_http_socket.specs.ReadAhead.{ahead_feed};
 
-    /// Wraps a reader, with no byte read ahead. Fails if memory is refused.
+    /// Wraps a reader, with no byte read ahead. Fails if memory can't be allocated.
     pub fn new(alloc: Global, reader: R) -> Result<ReadAhead<R>, AllocError>
         ensures { IfOk result (λ a. (a.reader ≡ reader) × (a.held ≡ []) × (a.feed ≡ R.feed reader)) }
     {
@@ -142,8 +142,8 @@ impl<R: ReadDevice> ReadAhead<R> {
         n
     }
 
-    // Reads at most a piece from the inner reader. Returns false, with nothing read, if memory for the piece is
-    // refused. No bytes may be held when it is called.
+    // Reads at most a piece from the inner reader. Returns false, with nothing read, if memory for the piece can't be
+    // allocated. No bytes may be held when it is called.
     fn fill(&mut self) -> Result<bool, io::Error>
         requires none { self.old.held ≡ [] }
         ensures bytes { result ≡ Ok true → self.old.feed ≡ ahead_feed self.new }
@@ -167,9 +167,9 @@ impl<R: ReadDevice> ReadAhead<R> {
         Ok(true)
     }
 
-    /// Reads some bytes into the front of `buf`, and returns their number. Held bytes come first. If there are none, it
-    /// runs `before` and calls the inner reader: for at most a piece, or directly into `buf` if that has room for a
-    /// piece. An empty `buf` changes nothing.
+    /// Reads some bytes into the front of `buf`, and returns their number. Held bytes come first. If there are none,
+    /// takes the action `before` and calls the inner reader: for at most a piece, or directly into `buf` if that has
+    /// room for a piece or memory for a piece can't be allocated. An empty `buf` changes nothing.
     pub fn read_after<B: BeforeRead>(
         &mut self,
         before: &mut B,
@@ -192,7 +192,8 @@ impl<R: ReadDevice> ReadAhead<R> {
     }
 
     // Reads some bytes from the inner reader: directly into `buf` if that has room for a piece, or if memory for a
-    // piece is refused; otherwise it reads a piece and copies what fits. No bytes may be held when it is called.
+    // piece can't be allocated; otherwise it reads a piece and copies what fits. No bytes may be held when it is
+    // called.
     fn read_more(&mut self, buf: &mut [u8]) -> Result<usize, io::Error>
         requires none { self.old.held ≡ [] }
         ensures reads { Reads self.old.feed (ahead_feed self.new) result buf.new }
@@ -234,9 +235,9 @@ impl<R: ReadDevice> ReadAhead<R> {
         }
     }
 
-    /// Reads once from the inner reader, as many bytes as there is room for after the held ones, and returns how many
-    /// came: 0 at the end, or if there is no room. Fails with the inner reader's fault, or with `OutOfMemory` if memory
-    /// is refused.
+    /// Reads once from the inner reader, at most as many bytes as there is room for after the held ones, and returns
+    /// the number of bytes read: 0 at the end, or if there is no room. Fails with the inner reader's fault, or with
+    /// `OutOfMemory` if memory can't be allocated.
     pub fn read_ahead(&mut self) -> Result<usize, io::Error>
         ensures feed { ahead_feed self.new ≡ ahead_feed self.old }
         ensures count { IfOk result (λ n. length self.new.held ≡ length self.old.held + n) }
@@ -256,7 +257,8 @@ impl<R: ReadDevice> ReadAhead<R> {
         Ok(n)
     }
 
-    /// Frees the memory of the bytes that are read ahead, if none is held. The next read that needs it takes it again.
+    /// Frees the memory for bytes that are read ahead, if no such bytes are held. The next read that needs it allocates
+    /// it again.
     pub fn release(&mut self)
         ensures { self.new ≡ self.old }
     {

@@ -12,12 +12,12 @@ use std::net::{Shutdown, SocketAddr};
 use std::sync::Arc;
 use tiny_http_io::device::{ReadDevice, WriteDevice};
 
-/// A direction of a connection.
+// A direction of a connection.
 #[derive(Clone, Copy, Debug, PartialEq, Eq)]
 enum Half {
-    /// From the client.
+    // From the client.
     Reading,
-    /// To the client.
+    // To the client.
     Writing,
 }
 
@@ -48,7 +48,7 @@ impl RefinedTcpStream {
     ghost use Rattle.tiny_http_socket.specs.Stream.{HasSamePeer};
 
     /// Splits a connection into its read half and its write half. The connection is closed once both halves and every
-    /// other handle are dropped. Fails if memory is refused; the connection is then closed.
+    /// other handle are dropped. Fails if memory can't be allocated; the connection is then closed.
     pub fn new(
         alloc: Global,
         connection: Connection,

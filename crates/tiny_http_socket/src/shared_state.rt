@@ -114,7 +114,7 @@ pub struct SharedState {
 impl SharedState {
     /// Creates the state of a connection from which nothing has been read yet. Without limits there are no timeouts.
     /// `upgraded` counts the upgraded connections; connections with the same counter share the limit on upgrades. Fails
-    /// if memory is refused.
+    /// if memory can't be allocated.
     pub fn new(
         alloc: Global,
         limits: Option<Limits>,

@@ -14,7 +14,7 @@ use tiny_http_limits::counts::Closing;
 use tiny_http_limits::limits::Limits;
 use tiny_http_limits::times::{Patience, Stall, time_left};
 
-// The minimum read timeout of a socket, in milliseconds: 0 would mean no timeout.
+// The minimum read timeout of a socket, in milliseconds: a timeout of 0 can't be set.
 const LEAST_MILLIS: u64 = 1;
 
 // The read timeout of a socket while the reader reads ahead, in milliseconds. The system rounds it up to its clock
@@ -38,7 +38,7 @@ pub struct TimedReader<R: ReadDevice + Drop, Rt: Clock> {
     begun: Option<Duration>,
     // The progress of reading the body of the last request handed out.
     stall: Stall,
-    // Whether the time for the body of the last request handed out is over.
+    // Whether the time allowed for the body of the last request handed out has run out.
     is_late: bool,
 }
 
@@ -82,7 +82,8 @@ impl<R: ReadDevice + Drop, Rt: Clock> TimedReader<R, Rt> {
     }
 
     // Reads the first bytes of a head. Returns 0, the end of input, if no byte arrives within this time. The wait
-    // starts again if a request was open when the wait began.
+    // starts again if a request was open when the wait began. Fails with `TimedOut` if the time allowed for the head
+    // has already run out.
     fn read_first(&mut self, time: Duration, buf: &mut [u8]) -> io::Result<usize>
         ensures { IfOk result (λ n. n ≤ length buf.new) }
     {
@@ -110,7 +111,7 @@ impl<R: ReadDevice + Drop, Rt: Clock> TimedReader<R, Rt> {
         Ok(0)
     }
 
-    // Reads the rest of a head, and fails with `TimedOut` once this time is over. The time begins at the first such
+    // Reads the rest of a head, and fails with `TimedOut` once this time has run out. The time begins at the first such
     // read, so a head that arrives in one piece needs no clock.
     fn read_head(&mut self, time: Duration, buf: &mut [u8]) -> io::Result<usize>
         ensures { IfOk result (λ n. n ≤ length buf.new) }
@@ -131,7 +132,7 @@ impl<R: ReadDevice + Drop, Rt: Clock> TimedReader<R, Rt> {
         }
     }
 
-    // Records that the time for the head is over, and fails with `TimedOut`.
+    // Records that the time allowed for the head has run out, and fails with `TimedOut`.
     fn head_is_late(&mut self) -> io::Result<usize>
         ensures { IsLate result }
     {
@@ -139,7 +140,7 @@ impl<R: ReadDevice + Drop, Rt: Clock> TimedReader<R, Rt> {
         Err(ErrorKind::TimedOut.into())
     }
 
-    // Reads from a body, and fails with `TimedOut` once the time for it is over.
+    // Reads from a body, and fails with `TimedOut` once the time allowed for it has run out.
     fn read_body(&mut self, patience: Patience, buf: &mut [u8]) -> io::Result<usize>
         ensures { IfOk result (λ n. n ≤ length buf.new) }
     {
@@ -153,8 +154,9 @@ impl<R: ReadDevice + Drop, Rt: Clock> TimedReader<R, Rt> {
         self.check_body(patience, begun, read)
     }
 
-    // Converts the result of a read from a body, begun at `begun`, into the one to report. Counts the time that the
-    // read took if it returned bytes. If the socket's timeout ended the read, the time for the body is over.
+    // Converts the result of a read from a body, which started at `begun`, into the one to report. Counts the time that
+    // the read took if it returned bytes. If the socket's timeout ended the read, the time allowed for the body has run
+    // out.
     fn check_body(
         &mut self,
         patience: Patience,
@@ -180,7 +182,8 @@ impl<R: ReadDevice + Drop, Rt: Clock> TimedReader<R, Rt> {
         }
     }
 
-    // Records that the time for the body is over, and fails with `TimedOut`, as does each later read of the body.
+    // Records that the time allowed for the body has run out, and fails with `TimedOut`, as does each later read of the
+    // body.
     fn body_is_late(&mut self) -> io::Result<usize>
         ensures { IsLate result }
     {
@@ -209,7 +212,7 @@ impl<R: ReadDevice + Drop, Rt: Clock> TimedReader<R, Rt> {
         self.stream_is_late()
     }
 
-    // Shuts the connection down, because the time for the stream is over, and fails with `TimedOut`.
+    // Shuts the connection down, because the time allowed for the stream has run out, and fails with `TimedOut`.
     fn stream_is_late(&mut self) -> io::Result<usize>
         ensures { IsLate result }
     {
@@ -230,7 +233,7 @@ impl<R: ReadDevice + Drop, Rt: Clock> TimedReader<R, Rt> {
 }
 
 impl<R: ReadAheadDevice + Drop, Rt: Clock> TimedReader<R, Rt> {
-    // Reads some of the bytes that were read ahead, without a wait. Bytes of a body give its time back.
+    // Reads some of the bytes that were read ahead, without waiting. Bytes of a body give back some of its time.
     fn read_held(&mut self, limits: Limits, buf: &mut [u8]) -> io::Result<usize>
         ensures { IfOk result (λ n. n ≤ length buf.new) }
     {
@@ -243,7 +246,8 @@ impl<R: ReadAheadDevice + Drop, Rt: Clock> TimedReader<R, Rt> {
         self.inner.read_in(buf)
     }
 
-    // Reads some of the bytes of a body that were read ahead, and fails with `TimedOut` once the time for it is over.
+    // Reads some of the bytes of a body that were read ahead, and fails with `TimedOut` once the time allowed for it
+    // has run out.
     fn read_held_body(&mut self, patience: Patience, buf: &mut [u8]) -> io::Result<usize>
         ensures { IfOk result (λ n. n ≤ length buf.new) }
     {
@@ -259,7 +263,7 @@ impl<R: ReadAheadDevice + Drop, Rt: Clock> TimedReader<R, Rt> {
 }
 
 impl<R: ReadAheadDevice + Drop, Rt: Clock> ReadDevice for TimedReader<R, Rt> {
-    /// Reads once. Bytes that were read ahead come first, without a wait. Under limits it waits at most as long as the
+    /// Reads once. Bytes that were read ahead come first, without waiting. Under limits it waits at most as long as the
     /// current phase allows; in phase `Stopped` it returns 0 without calling the inner reader. If `buf` is empty, it
     /// returns 0 without that call, too.
     fn read_in(&mut self, buf: &mut [u8]) -> Result<usize, io::Error> {
@@ -294,7 +298,7 @@ impl<R: ReadAheadDevice + Drop, Rt: Clock> ReadAheadDevice for TimedReader<R, Rt
         self.inner.ahead()
     }
 
-    /// Reads ahead once, for which it waits a clock tick or two at most. Records that a head has begun if a byte came.
+    /// Reads ahead once, waiting at most a clock tick or two. Records that a head has begun if any bytes were read.
     fn read_ahead(&mut self) -> Result<usize, io::Error> {
         self.wait_for(Some(Duration::from_millis(AHEAD_MILLIS)));
         let n = self.inner.read_ahead()?;
@@ -304,7 +308,7 @@ impl<R: ReadAheadDevice + Drop, Rt: Clock> ReadAheadDevice for TimedReader<R, Rt
         Ok(n)
     }
 
-    /// Frees the memory of the bytes that are read ahead, if none is held.
+    /// Frees the memory for bytes that are read ahead, if no such bytes are held.
     fn release_ahead(&mut self) {
         self.inner.release_ahead()
     }

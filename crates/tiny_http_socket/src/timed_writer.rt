@@ -19,10 +19,10 @@ use tiny_http_limits::times::{Patience, Stall};
 // out although the socket has room by then; the next call then finds that room.
 const STEP_MILLIS: u64 = 1_000;
 
-/// A writer to a client's socket. Under limits, once the time for writes is over, the connection is shut down, and the
-/// write fails with `TimedOut`; if only some of its bytes were taken, the next write fails instead. If all of them were
-/// taken, the write succeeds, however late. The clock is read only after a system call has taken fewer bytes than it
-/// was given. As a `WriteDevice` it counts its failures and states no bytes.
+/// A writer to a client's socket. Under limits, once the time allowed for writes has run out, the connection is shut
+/// down, and the write fails with `TimedOut`; if only some of its bytes were taken, the next write fails instead. If
+/// all of them were taken, the write succeeds, however late. The clock is read only after a system call has taken fewer
+/// bytes than it was given. As a `WriteDevice` it counts its failures and states no bytes.
 #[derive(Drop)]
 pub struct TimedWriter<Rt: Clock> {
     rt: Rt,
@@ -30,10 +30,10 @@ pub struct TimedWriter<Rt: Clock> {
     shared: Arc<SharedState>,
     // How long writes may wait, if the connection has limits.
     patience: Option<Patience>,
-    // Whether the client has been waited for; until then no time is counted.
+    // Whether a write has had to wait for the client; until then no time is counted.
     has_waited: bool,
     stall: Stall,
-    // Whether the time for writes is over.
+    // Whether the time allowed for writes has run out.
     is_late: bool,
     failures: u64,
     last: Option<ErrorKind>,
@@ -98,8 +98,8 @@ impl<Rt: Clock> TimedWriter<Rt> {
         written
     }
 
-    // Converts the result of a system call under limits: the system's timeout becomes `TimedOut`. If the time for
-    // writes is over and only some bytes were taken, shuts the connection down.
+    // Converts the result of a system call under limits: the system's timeout becomes `TimedOut`. If the time allowed
+    // for writes has run out and only some bytes were taken, shuts the connection down.
     fn in_time(
         &mut self,
         patience: Patience,
@@ -122,9 +122,9 @@ impl<Rt: Clock> TimedWriter<Rt> {
         }
     }
 
-    // Counts the time of a call that wrote this number of bytes, and returns whether the time for writes is over. A
-    // call that wrote nothing counts as at least one step, even if the clock can't be read. If the first call that
-    // falls short wrote some bytes, its wait is unknown, and isn't counted.
+    // Counts the time of a call that wrote this number of bytes, and returns whether the time allowed for writes has
+    // run out. A call that wrote nothing counts as at least one step, even if the clock can't be read. If the first
+    // call that falls short wrote some bytes, its wait is unknown, and isn't counted.
     fn is_over(&mut self, patience: Patience, asked: Asked, written: usize) -> bool
         ensures { timed_sink self.new ≡ timed_sink self.old }
     {
@@ -141,8 +141,8 @@ impl<Rt: Clock> TimedWriter<Rt> {
         self.has_waited && self.stall.count(waited, written, patience)
     }
 
-    // Returns whether to retry a write: under limits, if the system timed out and the time for writes isn't over.
-    // Counts the time of the call, and shuts the connection down if the time is over.
+    // Returns whether to retry a write: under limits, if the system call timed out and the time allowed for writes
+    // hasn't run out. Counts the time of the call, and shuts the connection down if that time has run out.
     fn tries_again(&mut self, asked: Asked, written: &io::Result<usize>) -> bool
         ensures { timed_sink self.new ≡ timed_sink self.old }
     {
@@ -162,7 +162,8 @@ impl<Rt: Clock> TimedWriter<Rt> {
         true
     }
 
-    // Shuts the connection down, because the time for writes is over. Each later nonempty write fails with `TimedOut`.
+    // Shuts the connection down, because the time allowed for writes has run out. Each later nonempty write fails with
+    // `TimedOut`.
     fn end_late(&mut self)
         ensures { timed_sink self.new ≡ timed_sink self.old }
     {
@@ -199,7 +200,7 @@ impl<Rt: Clock> WriteDevice for TimedWriter<Rt> {
     }
 
     /// Writes some bytes to the client, and returns their number. If `buf` is empty, returns 0 without a system call.
-    /// Under limits it returns at most a second after the time for writes is over.
+    /// Under limits it returns at most a second after the time allowed for writes has run out.
     fn write_out(&mut self, buf: &[u8]) -> Result<usize, io::Error> {
         if buf.is_empty() {
             return Ok(0);

@@ -64,9 +64,9 @@ fn is_bracketed_address(text: &[u8]) -> bool
     are_address_bytes(&text[1..n - 1])
 }
 
-/// Returns whether the text is a host (RFC 3986, section 3.2.2): either one or more hexadecimal digits, `:` and `.` in
-/// brackets, not validated further; or a nonempty name in which each byte is an ASCII letter, a digit, one of
-/// ``-._~!$&'()*+,;=``, or a `%` that two hexadecimal digits follow.
+/// Returns whether the text is a host (RFC 3986, section 3.2.2): either one or more bytes in brackets, each a
+/// hexadecimal digit, `:` or `.`, not validated further; or a nonempty name in which each byte is an ASCII letter, a
+/// digit, one of ``-._~!$&'()*+,;=``, or a `%` followed by two hexadecimal digits.
 pub fn is_host(text: &[u8]) -> bool
     ensures { IsTrue result ↔ IsHost text.now }
 {

@@ -17,7 +17,7 @@ use tiny_http_text::ascii::AsciiString;
 use tiny_http_text::bytes::{are_ascii, cut, is};
 use tiny_http_text::copies::owned;
 
-// Parses a version: `HTTP/`, a digit, a point and a digit.
+// Parses a version: `HTTP/`, a digit, a dot and a digit.
 fn version_in(text: &[u8]) -> Option<HTTPVersion>
     ensures some { IfSome result (λ v. IsVersion text.now v) }
     ensures none { IfNone result (IsNoVersion text.now) }
@@ -31,7 +31,7 @@ fn version_in(text: &[u8]) -> Option<HTTPVersion>
     Some(HTTPVersion(*major - b'0', *minor - b'0'))
 }
 
-// Returns the bytes before the first slash or question mark.
+// Returns the bytes before the first slash or question mark, or all bytes if there is neither.
 fn authority_in(text: &[u8]) -> &[u8]
     ensures { result.now ≡ authority_in text.now }
 {
@@ -108,12 +108,12 @@ fn split_request_line(text: &[u8]) -> Option<(&[u8], &[u8], HTTPVersion)>
 }
 
 /// Parses a request line: a token, a space, the target, a space and the version (RFC 9112, section 3). Returns `None`
-/// for any other text. Fails if the text is a request line and memory is refused.
+/// for any other text. Fails if the text is a request line and memory can't be allocated.
 ///
 /// The target has only bytes 33 to 126. For `CONNECT` it is a host and a port from 1 to 65535 (`hosts::is_authority`).
 /// Otherwise it begins with `/`, or is `*` for `OPTIONS`, or begins with `http://` or `https://`, compared
 /// case-insensitively, followed up to the next `/` or `?` by a nonempty host, with or without a port
-/// (`hosts::is_host_with_port`). The version is `HTTP/`, a digit, a point and a digit; `validation::validate` checks
+/// (`hosts::is_host_with_port`). The version is `HTTP/`, a digit, a dot and a digit; `validation::validate` checks
 /// whether it is supported.
 pub fn parse_request_line(
     alloc: Global,
@@ -198,7 +198,7 @@ fn split_field_line(text: &[u8]) -> Option<(&[u8], &[u8])>
 /// The value has no byte 0 to 8, 10 to 31 or 127. A byte above 127 is percent-encoded in upper case, so the byte 233
 /// and the three bytes `%E9` result in the same value. `Host` and `Transfer-Encoding` must not contain a byte above
 /// 127, whatever the version. Returns `None` if the text isn't such a field line. Fails if the text is one and memory
-/// is refused.
+/// can't be allocated.
 pub fn parse_field_line(alloc: Global, text: &[u8]) -> Result<Option<Header>, AllocError>
     ensures some { IfOk result (λ found. IfSome found (λ h. ReadsFieldLine text.now h)) }
     ensures none { result ≡ Ok None → IsNoFieldLine text.now }

@@ -29,7 +29,7 @@ enum NoHead {
     Refused(StandardFault),
     // The source stopped before the end of the head.
     Unfinished { has_begun: bool },
-    // Memory was refused.
+    // Memory couldn't be allocated.
     Memory,
 }
 
@@ -46,7 +46,7 @@ fn text_of(line: &[u8]) -> Option<&[u8]>
 }
 
 // Parses a line, given without its LF, as a request line; returns `None` for an empty line. Refuses a malformed line
-// with `BadLine`. Fails with `Memory` if memory is refused.
+// with `BadLine`. Fails with `Memory` if memory can't be allocated.
 fn request_in(
     alloc: Global,
     line: &[u8],
@@ -67,7 +67,7 @@ fn request_in(
 }
 
 // Parses a line, given without its LF, as a field line; returns `None` for the empty line. Refuses a malformed line
-// with `BadLine`. Fails with `Memory` if memory is refused.
+// with `BadLine`. Fails with `Memory` if memory can't be allocated.
 fn field_in(alloc: Global, line: &[u8]) -> Result<Option<Header>, NoHead>
     ensures { FieldIn line.now result }
 {
@@ -198,7 +198,7 @@ fn read_fields<R: ReadDevice>(
     left: &mut usize,
 ) -> Result<Vec<Header>, NoHead>
     ensures reads { ReadsFields left.old left.new source.old.feed source.new.feed result }
-    // `Memory` is reported only if the first line is a valid field line, or isn't whole in the buffer.
+    // `Memory` is reported only if the first line is a valid field line, or isn't entirely in the buffer.
     ensures memory { result ≡ Err NoHead.Memory → IfSome source.old.feed
         (λ f. LacksMemory IsNoFieldLine left.old f source.new.feed source.new.held) }
     ensures shorter { OnOk result (left.new ≤ left.old) }
@@ -238,16 +238,17 @@ fn without_head(why: NoHead) -> Result<StandardRead, AllocError>
 
 /// Reads the next head from a source, with at most `limit` bytes and `MOST_HEADERS` field lines. The result is that of
 /// `heads::read_head` on all bytes still to come from the source. No byte after the head is consumed; one call to the
-/// reader may have buffered some. A line that is whole in the buffer is parsed in place. A malformed or surplus line is
-/// refused as soon as its LF has come. `Unfinished` means that the source stopped before the end of the head, and is
-/// over. Fails if memory is refused. After a failure or a refusal, the source may be in the middle of the head.
+/// reader may have buffered some. A line that is entirely in the buffer is parsed in place. A malformed or surplus line
+/// is refused as soon as its LF has arrived. `Unfinished` means that the source stopped before the end of the head;
+/// nothing more can be read from it. Fails if memory can't be allocated. After a failure or a refusal, the source may
+/// be in the middle of the head.
 pub fn read_head_from<R: ReadDevice>(
     alloc: Global,
     source: &mut Source<R>,
     limit: usize,
 ) -> Result<StandardRead, AllocError>
     ensures reads { IfOk result (λ read. ReadsFrom limit source.old.feed source.new.feed read) }
-    // Memory is needed only if the request line is valid, or isn't whole in the buffer.
+    // Memory is needed only if the request line is valid, or isn't entirely in the buffer.
     ensures memory { OnErr result (IfSome source.old.feed
         (λ f. LacksMemoryAtStart limit f source.new.feed source.new.held)) }
     ensures validated { IfOk result IsValidated }

@@ -24,12 +24,12 @@ pub(crate) enum FoundLine {
 pub(crate) enum NoLine {
     /// The source stopped before an LF and before the limit.
     Cut {
-        /// Whether a byte of the line has come.
+        /// Whether a byte of the line has arrived.
         has_begun: bool,
     },
     /// The limit was reached without an LF.
     TooLong,
-    /// Memory for the line was refused.
+    /// Memory for the line couldn't be allocated.
     Memory,
 }
 
@@ -96,7 +96,7 @@ fn take_line<R: ReadDevice>(
     }
 }
 
-/// Finds the next line, within `limit` bytes including its LF. A line that is whole in the buffer stays there, to be
+/// Finds the next line, within `limit` bytes including its LF. A line that is entirely in the buffer stays there, to be
 /// parsed in place without an allocation. Any other line is read and consumed, with its LF.
 pub(crate) fn find_line<R: ReadDevice>(
     alloc: Global,

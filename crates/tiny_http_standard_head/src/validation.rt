@@ -35,8 +35,8 @@ pub struct HeadSummary {
     /// `100-continue`.
     pub owes_continue: bool,
     /// Whether the head asks for an upgrade: in version 1.1 or later, if `Connection` lists `upgrade` and `Upgrade`
-    /// lists a protocol. A protocol is a token, or two tokens with a slash between, without `%`, which may stand for a
-    /// byte above 127.
+    /// lists a protocol. A protocol is a token, or two tokens separated by a slash. It must not contain `%`, which may
+    /// come from percent-encoding a byte above 127.
     pub asks_upgrade: bool,
     /// Whether the head alone makes this the last request of the connection: if `Connection` lists `close`, if the
     /// version is 1.0 and `Connection` doesn't list `keep-alive`, or if the method is `CONNECT`.
@@ -48,13 +48,15 @@ pub struct HeadSummary {
 pub enum HeadError {
     /// The major version isn't 1: 505 (RFC 9110, section 15.6.6).
     UnsupportedVersion,
-    /// The host or the framing of the body is invalid: 400 (RFC 9112, sections 3.2 and 6). Either `Host` is missing in
-    /// version 1.1 or later, comes more than once, or is neither empty nor a host with or without a port. Or the
-    /// elements of `Content-Length` aren't all the same number; an empty element isn't a number. Or `Transfer-Encoding`
-    /// comes in version 1.0 or beside `Content-Length`, its last element isn't `chunked`, or another element is empty
-    /// or `chunked`.
+    /// The host or the framing of the body is invalid: 400 (RFC 9112, sections 3.2 and 6). One of these holds:
+    ///
+    /// - `Host` is missing in version 1.1 or later, appears more than once, or is neither empty nor a host with an
+    ///   optional port.
+    /// - The elements of `Content-Length` aren't all the same number; an empty element isn't a number.
+    /// - `Transfer-Encoding` appears in version 1.0 or alongside `Content-Length`, its last element isn't `chunked`, or
+    ///   another element is empty or `chunked`.
     InvalidHead,
-    /// Other transfer codings come before a final `chunked`, in version 1.1 or later and without a content length: 501
+    /// Other transfer codings precede a final `chunked`, in version 1.1 or later and without a content length: 501
     /// (RFC 9112, section 6.1).
     UnknownCoding,
     /// An element of `Expect` is neither `100-continue` nor empty, whatever the version: 417 (RFC 9110, section
@@ -96,7 +98,7 @@ pub(crate) fn trim(text: &str) -> &[u8]
     trim_space_and_tab(text.as_bytes())
 }
 
-// Returns whether the text is a token, or two tokens with a slash between.
+// Returns whether the text is a token, or two tokens separated by a slash.
 fn is_one_or_two_tokens(text: &[u8]) -> bool
     ensures { result ≡ is_one_or_two_tokens (parts slash text.now) }
 {
@@ -343,8 +345,8 @@ fn names_in(value: &str, protocol: &str) -> bool
 }
 
 /// Returns whether the `Upgrade` fields list this protocol, case-insensitively, as a whole element (RFC 9110, section
-/// 7.8). An element with a percent sign is ignored, and so is one that is neither a token nor two tokens with a slash
-/// between.
+/// 7.8). An element with a percent sign is ignored, and so is one that is neither a token nor two tokens separated by a
+/// slash.
 pub fn names_protocol(headers: &[Header], protocol: &str) -> bool
     ensures { result ≡ names_protocol headers.now protocol.now }
 {
@@ -362,7 +364,7 @@ pub fn names_protocol(headers: &[Header], protocol: &str) -> bool
 ///
 /// The weight is the first parameter that begins with `q=` or `Q=` (RFC 9110, section 12.4.2). Zero is `0`, `0.`,
 /// `0.0`, `0.00` or `0.000`; any other value, even one that isn't a number, asks for chunks. All other parameters and
-/// empty elements are ignored. A comma or semicolon in a quoted string also separates.
+/// empty elements are ignored. A comma or semicolon is a separator even inside a quoted string.
 pub fn asks_chunked(headers: &[Header]) -> bool
     ensures { result ≡ asks_chunked headers.now }
 {
@@ -384,8 +386,8 @@ fn is_last(version: HTTPVersion, method: &Method, headers: &[Header]) -> bool
 
 /// Validates a head whose lines are valid, and returns its summary.
 ///
-/// The checks come in the order of `HeadError`: the version, the host and the body's framing, the transfer codings, and
-/// last the expectations. Each minor version after 1.0 counts as 1.1.
+/// The checks are made in the order of `HeadError`: the version, the host and the body's framing, the transfer codings,
+/// and finally the expectations. Each minor version after 1.0 counts as 1.1.
 pub fn validate(
     version: HTTPVersion,
     method: &Method,

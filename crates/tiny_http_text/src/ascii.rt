@@ -159,7 +159,7 @@ impl TextBytes {
         }
     }
 
-    // Copies the text. Fails only if it has more than 30 bytes and memory is refused.
+    // Copies the text. Fails only if it has more than 30 bytes and memory can't be allocated.
     fn try_clone(&self) -> Result<TextBytes, AllocError>
         ensures text { IfOk result (λ t. text_bytes t ≡ text_bytes self.now) }
         ensures short { length (text_bytes self.now) ≤ 30 → IsOk result }
@@ -196,8 +196,8 @@ impl AsciiString {
         })
     }
 
-    /// Copies bytes that are known to be ASCII, without checking them. Fails if memory is refused; a copy of at most 30
-    /// bytes needs no allocation.
+    /// Copies bytes that are known to be ASCII, without checking them. Fails if memory can't be allocated; a copy of at
+    /// most 30 bytes needs no allocation.
     pub(crate) fn copied_unchecked(alloc: Global, bytes: &[u8]) -> Result<AsciiString, AllocError>
         requires { IsAscii bytes.now }
         ensures text { IfOk result (λ s. s ≡ bytes.now) }
@@ -252,7 +252,7 @@ impl AsciiString {
         self.as_ascii().eq_ignore_ascii_case(other)
     }
 
-    /// Copies the text. Fails if memory is refused; a copy of at most 30 bytes needs no allocation.
+    /// Copies the text. Fails if memory can't be allocated; a copy of at most 30 bytes needs no allocation.
     pub fn try_clone(&self) -> Result<AsciiString, AllocError>
         ensures text { IfOk result (λ s. s ≡ self.now) }
         ensures short { length self.now ≤ 30 → IsOk result }

@@ -5,7 +5,7 @@ ghost use Rattle.tiny_http_text.specs.Bytes.{AreAscii};
 use crate::ascii::AsciiString;
 use std::alloc::{AllocError, Global};
 
-/// Copies an ASCII text. Fails if memory is refused; a copy of at most 30 bytes needs no allocation.
+/// Copies an ASCII text. Fails if memory can't be allocated; a copy of at most 30 bytes needs no allocation.
 pub fn owned(alloc: Global, text: &[u8]) -> Result<AsciiString, AllocError>
     requires { AreAscii text.now }
     ensures text { IfOk result (λ s. s ≡ text.now) }

@@ -36,7 +36,7 @@ fn short_number(digits: &str) -> Option<u32>
     number(digits)
 }
 
-// Returns the place value, in thousandths, of the last of `digits` fraction digits, one to three.
+// Returns the place value, in thousandths, of the last digit of a fraction that has `digits` digits, one to three.
 fn scale(digits: usize) -> u32
     requires some { 1 ≤ digits }
     requires few { digits ≤ 3 }
@@ -64,8 +64,8 @@ fn thousandths(digits: &str) -> Option<u32>
     Some(short_number(digits)? * scale(digits.len()))
 }
 
-// Parses a quality, one to six digits and then optionally a point and at most three digits, and returns it in
-// thousandths. Returns `None` for any other text.
+// Parses a quality and returns it in thousandths. A quality is one to six digits, optionally followed by a point and at
+// most three digits. Returns `None` for any other text.
 fn quality(text: &str) -> Option<u32>
     ensures { result ≡ quality text.now }
 {
@@ -99,7 +99,7 @@ fn first_quality(parameters: &str) -> u32
     parameter_quality(rest).unwrap_or(DEFAULT_QUALITY)
 }
 
-/// Parses one list element, the text between two commas, into its name and its quality in thousandths.
+/// Parses one element of a comma-separated list into its name and its quality in thousandths.
 ///
 /// The rules are those of `parse_header_value`. Nothing is allocated.
 pub fn parse_element(text: &str) -> (&str, u32)
@@ -119,7 +119,7 @@ pub fn parse_element(text: &str) -> (&str, u32)
 /// and 32) at its ends; the name of an empty element is empty. The quality of the name is that of the first parameter
 /// that begins, after optional white space, with `q=` and has a readable number: one to six digits, then optionally a
 /// point and at most three digits, with optional white space around the number. If there is no such parameter, the
-/// quality is 1000. The Rust crate accepts other forms of numbers. Fails if memory for the list is refused.
+/// quality is 1000. The Rust crate accepts other forms of numbers. Fails if memory for the list can't be allocated.
 pub fn parse_header_value(alloc: Global, value: &str) -> Result<Vec<(&str, u32)>, AllocError>
     ensures { IfOk result (λ list. ListsQualities value.now (map (λ e. (e.0.now, e.1)) list.items)) }
 {

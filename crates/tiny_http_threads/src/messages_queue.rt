@@ -46,7 +46,7 @@ impl<T: Drop> QueueState<T> {
         }
     }
 
-    // Creates an empty queue with this capacity. Fails if memory is refused.
+    // Creates an empty queue with this capacity. Fails if memory can't be allocated.
     fn with_capacity(alloc: Global, capacity: usize) -> Result<QueueState<T>, AllocError>
         ensures { IfOk result (λ queue. queue ≡ []) }
     {
@@ -55,7 +55,7 @@ impl<T: Drop> QueueState<T> {
         })
     }
 
-    /// Adds an unblock mark at the back. Fails if memory is refused, and then changes nothing.
+    /// Adds an unblock mark at the back. Fails if memory can't be allocated, and then changes nothing.
     pub fn unblock(&mut self) -> Result<(), AllocError>
         ensures ok { OnOk result (self.new ≡ self.old ++ (None ∷ [])) }
         ensures err { OnErr result (self.new ≡ self.old) }
@@ -71,7 +71,7 @@ impl<T: Drop> QueueState<T> {
 impl<T> QueueState<T> {
     ghost use Rattle.tiny_http_threads.specs.Queue.{Pops};
 
-    /// Adds a value at the back. If memory is refused, the error hands back the value, and nothing has changed.
+    /// Adds a value at the back. If memory can't be allocated, the error hands back the value, and nothing has changed.
     pub fn push(&mut self, value: T) -> Result<(), T>
         ensures ok { OnOk result (self.new ≡ self.old ++ (Some value ∷ [])) }
         ensures err { OnErr result (self.new ≡ self.old) }
@@ -147,7 +147,7 @@ pub struct MessagesQueue<T> {
 }
 
 impl<T: Drop> MessagesQueue<T> {
-    /// Creates an empty queue with capacity for `capacity` values and marks. Fails if memory is refused.
+    /// Creates an empty queue with capacity for `capacity` values and marks. Fails if memory can't be allocated.
     pub fn with_capacity(
         alloc: Global,
         capacity: usize,
@@ -165,7 +165,7 @@ impl<T: Drop> MessagesQueue<T> {
     }
 
     /// Adds an unblock mark at the back, for which one pop returns `None`, and wakes a waiting thread. Fails if memory
-    /// is refused.
+    /// can't be allocated.
     pub fn unblock<R: Wait>(&self, rt: &R) -> Result<(), AllocError> {
         let mut shared = self.shared.lock(rt);
         shared.queue.unblock()?;
@@ -186,7 +186,8 @@ impl<T: Drop> MessagesQueue<T> {
 
 // As above, without `T: Drop` no call can lose a value.
 impl<T> MessagesQueue<T> {
-    /// Adds a value at the back, and wakes a waiting thread. If memory is refused, the error hands back the value.
+    /// Adds a value at the back, and wakes a waiting thread. If memory can't be allocated, the error hands back the
+    /// value.
     pub fn push<R: Wait>(&self, rt: &R, value: T) -> Result<(), T>
         ensures { IfErr result (λ back. back ≡ value) }
     {

@@ -1,4 +1,4 @@
-//! A count of the entries made by any number of threads. Programs may use it; here only tests do.
+//! A count of the entries made by any number of threads. Programs may use it; in this project only tests do.
 ghost use Rattle.std.specs.Prelude.{◌≡◌, ◌+◌, ◌-◌, ◌^◌, ◌<◌, false, if◌then◌else◌};
 ghost use Rattle.tiny_http_threads.specs.Roster.{CountsIn};
 

@@ -28,7 +28,7 @@ pub struct SequentialReaderBuilder<I, R: Wait> {
 }
 
 impl<I: Read + Drop, R: Wait + Copy> SequentialReaderBuilder<I, R> {
-    /// Creates a builder of readers over this inner reader. Fails if memory is refused.
+    /// Creates a builder of readers over this inner reader. Fails if memory can't be allocated.
     pub fn new(
         rt: R,
         alloc: Global,
@@ -39,7 +39,7 @@ impl<I: Read + Drop, R: Wait + Copy> SequentialReaderBuilder<I, R> {
     }
 
     /// Creates a builder of readers over this inner reader, and the first reader, which has its turn. Fails if memory
-    /// is refused.
+    /// can't be allocated.
     #[doc(hidden)]
     pub fn begin(
         rt: R,
@@ -56,7 +56,7 @@ impl<I: Read + Drop, R: Wait + Copy> SequentialReaderBuilder<I, R> {
         ))
     }
 
-    /// Creates the next reader. Fails if memory is refused, or after 2^64 - 1 readers.
+    /// Creates the next reader. Fails if memory can't be allocated, or after 2^64 - 1 readers.
     pub fn next(&mut self) -> Result<SequentialReader<I, R>, AllocError> {
         let turn = Turn::new(self.rt, self.alloc, &self.queue)?;
         Ok(SequentialReader { turn })
@@ -113,7 +113,7 @@ pub struct SequentialWriterBuilder<W, R: Wait> {
 }
 
 impl<W: Write + Drop, R: Wait + Copy> SequentialWriterBuilder<W, R> {
-    /// Creates a builder of writers over this inner writer. Fails if memory is refused.
+    /// Creates a builder of writers over this inner writer. Fails if memory can't be allocated.
     pub fn new(
         rt: R,
         alloc: Global,
@@ -123,7 +123,7 @@ impl<W: Write + Drop, R: Wait + Copy> SequentialWriterBuilder<W, R> {
         Ok(SequentialWriterBuilder { rt, alloc, queue })
     }
 
-    /// Creates the next writer. Fails if memory is refused, or after 2^64 - 1 writers.
+    /// Creates the next writer. Fails if memory can't be allocated, or after 2^64 - 1 writers.
     pub fn next(&mut self) -> Result<SequentialWriter<W, R>, AllocError> {
         let turn = Turn::new(self.rt, self.alloc, &self.queue)?;
         Ok(SequentialWriter { turn, failures: 0 })

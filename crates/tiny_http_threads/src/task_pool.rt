@@ -75,9 +75,9 @@ impl<J> PoolState<J> {
         }
     }
 
-    /// Offers a job. If more workers are idle than jobs wait, the job waits, or is returned if memory is refused.
-    /// Otherwise the job must start on a new worker, which counts as running from now on; if 2^64 - 1 workers run, the
-    /// job is returned.
+    /// Offers a job. If more workers are idle than jobs wait, the job waits, or is returned if memory can't be
+    /// allocated. Otherwise the job must start on a new worker, which counts as running from now on; if 2^64 - 1
+    /// workers run, the job is returned.
     pub fn offer(&mut self, job: J) -> Offered<J>
         ensures sound { IsSound self.new }
         ensures offers { Offers self.old job result self.new }
@@ -224,7 +224,8 @@ impl<J: Job + Drop> Sharing<J> {
         unreachable!()
     }
 
-    // Waits to be woken, for at most 5000 ms if more than `MIN_THREADS` workers run. Returns whether that time is over.
+    // Waits to be woken, for at most 5000 ms if more than `MIN_THREADS` workers run. Returns the lock's guard, and
+    // whether that time has run out.
     fn wait<'a, R: Wait + Clock>(
         &self,
         rt: &R,
@@ -268,8 +269,8 @@ impl<J: Job + Drop + Send + 'static, R: Threads + Wait + Clock + Copy + Send + '
     J,
     R,
 > {
-    /// Starts four workers. Fails with `OutOfMemory` if memory is refused, or with `WouldBlock` if a thread can't be
-    /// created; the pool is then closed, so that the workers that were started end.
+    /// Starts four workers. Fails with `OutOfMemory` if memory can't be allocated, or with `WouldBlock` if a thread
+    /// can't be created; the pool is then closed, so that the workers that were started end.
     pub fn new(rt: R, alloc: Global) -> io::Result<TaskPool<J, R>>
         ensures { IfErr result (λ e. (error_kind e ≡ ErrorKind.OutOfMemory) ⊎ (error_kind e ≡ ErrorKind.WouldBlock)) }
     {
@@ -290,7 +291,8 @@ impl<J: Job + Drop + Send + 'static, R: Threads + Wait + Clock + Copy + Send + '
         Ok(pool)
     }
 
-    /// Runs a job on a worker, idle or new. If memory or a thread is refused, the error hands back the job.
+    /// Runs a job on a worker, idle or new. If memory can't be allocated or a thread can't be created, the error hands
+    /// back the job.
     pub fn spawn(&self, rt: &R, alloc: Global, job: J) -> Result<(), J>
         ensures { IfErr result (λ back. back ≡ job) }
     {
@@ -312,7 +314,7 @@ impl<J: Job + Drop + Send + 'static, R: Threads + Wait + Clock + Copy + Send + '
     }
 
     // Starts a worker with a job. If no thread can be created, `thread::spawn` hands back the closure, which holds the
-    // job: called with the mark set, it returns the job instead of running it.
+    // job. Called with `is_refused` set, the closure returns the job instead of running it.
     fn start(&self, rt: R, alloc: Global, job: J) -> Result<(), J>
         ensures { IfErr result (λ back. back ≡ job) }
     {

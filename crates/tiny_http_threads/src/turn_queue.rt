@@ -22,7 +22,7 @@ enum Taking<T> {
     Held(Box<T>),
     // The number waits, and its thread must wait on this condition.
     Waits(Arc<Condvar>),
-    // Memory for the wait was refused, or the number was never issued. Nothing has changed.
+    // Memory for the wait couldn't be allocated, or the number was never issued. Nothing has changed.
     Refused,
 }
 
@@ -70,9 +70,9 @@ impl<T> Model for TurnQueueState<T> {
     }) };
 }
 
-// Lists a number as waiting, and returns the condition that wakes its thread. No clause states that the returned
-// condition is the listed one, since to contracts all conditions are equal. Fails if memory is refused, and then
-// changes nothing.
+// Lists a number as waiting, and returns the condition variable that wakes its thread. No clause states that the
+// returned condition variable is the listed one, since to contracts all of them are equal. Fails if memory can't be
+// allocated, and then changes nothing.
 fn list_waiter(
     waiters: &mut BTreeMap<u64, Arc<Condvar>>,
     alloc: Global,
@@ -105,7 +105,7 @@ impl<T: Drop> TurnQueueState<T> {
     ghost use Rattle.tiny_http_threads.specs.TurnQueue.{IsSoundTurnQueue, IsNewTurnQueue, ListsWaiter, WakesNext};
     ghost use Rattle.tiny_http_threads.specs.TurnQueue.{taken_item};
 
-    // Creates the state before any number is issued. Fails if memory is refused.
+    // Creates the state before any number is issued. Fails if memory can't be allocated.
     fn new(alloc: Global, item: T) -> Result<TurnQueueState<T>, AllocError>
         ensures { IfOk result (λ q. IsNewTurnQueue item q) }
     {
@@ -119,7 +119,7 @@ impl<T: Drop> TurnQueueState<T> {
         })
     }
 
-    // Issues the next number. Fails if memory is refused or no number is left; then nothing has changed.
+    // Issues the next number. Fails if memory can't be allocated or no number is left; then nothing has changed.
     fn issue(&mut self) -> Result<u64, AllocError>
         ensures number { IfOk result (λ n. turn_answer Issue self.old.turns.marks ≡ Issued n) }
         ensures ok { OnOk result (self.new ≡ record self.old {
@@ -194,8 +194,8 @@ impl<T: Drop> TurnQueueState<T> {
         self.wants_room = true;
     }
 
-    // Returns whether a thread waits until a number is finished, and clears that mark: the caller must then wake the
-    // thread.
+    // Returns whether a thread waits until a number is finished, and clears that flag. If one waits, the caller must
+    // wake it.
     fn gives_room(&mut self) -> bool
         ensures wanted { result ≡ self.old.wants_room }
         ensures room { self.new ≡ record self.old { wants_room = false } }
@@ -206,7 +206,7 @@ impl<T: Drop> TurnQueueState<T> {
     }
 
     // Holds the number if its turn has come, as `Turns` does. Otherwise lists the number as waiting. Refuses if memory
-    // for the wait is refused or the number was never issued.
+    // for the wait can't be allocated or the number was never issued.
     fn take(&mut self, alloc: Global, number: u64) -> Taking<T>
         ensures marks { self.new.turns.marks ≡ marks_after_step (Take number) self.old.turns.marks }
         ensures item { TakesTurn (turn_answer (Take number) self.old.turns.marks) self.old.turns.resting
@@ -258,7 +258,7 @@ impl<T: Drop> TurnQueueState<T> {
     }
 }
 
-// Creates a turn queue with this state. Fails if memory is refused.
+// Creates a turn queue with this state. Fails if memory can't be allocated.
 fn share<T: Drop>(
     alloc: Global,
     state: TurnQueueState<T>,
@@ -273,31 +273,32 @@ fn share<T: Drop>(
     Ok(Arc::new(alloc, queue)?)
 }
 
-/// An item that threads use one at a time, in the order of the numbers issued to them. A text may be left for a number:
-/// the thread that holds the item when the turn of that number comes writes the text. The item and the texts are moved
-/// out, so no I/O is done under the lock.
+/// An item that threads use one at a time, in the order of the numbers issued to them. A text may be left for a number;
+/// whichever thread holds the item when that number's turn comes writes the text. The item and the texts are moved out
+/// of the locked state, so no I/O is done under the lock.
 #[derive(Drop)]
 pub(crate) struct TurnQueue<T> {
     state: Mutex<TurnQueueState<T>>,
     // The condition on which a thread waits until a number is finished.
     finished: Condvar,
-    // Whether the queue was closed. `Place::is_last` reads it before it takes the lock, so it may be set without.
+    // Whether the queue was closed. The flag may be set without the lock, since `Place::is_last` reads it before it
+    // takes the lock.
     is_closed: Arc<AtomicBool>,
     // Whether the queue closes when its item breaks.
     closes_when_broken: AtomicBool,
-    // Whether `break_queue` closed the queue: its item has failed or was ended, and what is done with it from then on
+    // Whether `break_queue` closed the queue: its item has failed or was ended, and anything written to it from then on
     // is lost.
     is_broken: AtomicBool,
 }
 
 impl<T: Drop> TurnQueue<T> {
-    /// Creates a queue from which no number has been issued yet. Fails if memory is refused.
+    /// Creates a queue from which no number has been issued yet. Fails if memory can't be allocated.
     pub fn new(alloc: Global, item: T) -> Result<Arc<TurnQueue<T>>, AllocError> {
         share(alloc, TurnQueueState::new(alloc, item)?)
     }
 
-    /// Issues the next number. Returns the number, and whether its turn has come. Fails if memory is refused, or no
-    /// number is left.
+    /// Issues the next number. Returns the number, and whether its turn has come. Fails if memory can't be allocated,
+    /// or no number is left.
     pub fn issue<R: Wait>(&self, rt: &R) -> Result<(u64, bool), AllocError> {
         let mut state = self.state.lock(rt);
         let number = state.issue()?;
@@ -347,8 +348,8 @@ impl<T: Drop> TurnQueue<T> {
         self.closes_when_broken.store(true, Ordering::SeqCst);
     }
 
-    /// Leaves a text for a number; it is written in the turn of the number. If that turn has come, holds the number
-    /// instead, and returns the item and the text. Doesn't wait for any turn.
+    /// Leaves a text for an open number, to be written in that number's turn. If the turn has come, holds the number
+    /// instead, and returns the item and the text. If the number isn't open, drops the text. Doesn't wait for any turn.
     pub fn leave<R: Wait>(&self, rt: &R, number: u64, text: Vec<u8>) -> Option<(Box<T>, Vec<u8>)>
         ensures { IfSome result (λ held. held.1 ≡ text) }
     {
@@ -360,7 +361,8 @@ impl<T: Drop> TurnQueue<T> {
     }
 
     /// Finishes a held number. If a text was left for the next number, that number is now held, and the same item and
-    /// the text are returned. Otherwise wakes the thread that waits for the next turn, if there is one.
+    /// the text are returned. Otherwise wakes the thread that waits for the next turn, if there is one. In either case
+    /// also wakes a thread that waits in `wait_for_room`. If the number isn't held, drops the item.
     pub fn finish<R: Wait>(&self, rt: &R, number: u64, item: Box<T>) -> Option<(Box<T>, Vec<u8>)>
         ensures { IfSome result (λ next. next.0 ≡ item) }
     {
@@ -432,7 +434,7 @@ pub(crate) struct Turn<T, R: Wait> {
 }
 
 impl<T: Drop, R: Wait + Drop> Turn<T, R> {
-    /// Issues the next number of this queue. Fails if memory is refused, or no number is left.
+    /// Issues the next number of this queue. Fails if memory can't be allocated, or no number is left.
     pub fn new(rt: R, alloc: Global, queue: &Arc<TurnQueue<T>>) -> Result<Turn<T, R>, AllocError> {
         let queue = Arc::try_clone(queue)?;
         let (number, is_next) = queue.issue(&rt)?;
@@ -444,8 +446,8 @@ impl<T: Drop, R: Wait + Drop> Turn<T, R> {
         })
     }
 
-    /// Issues the next number of this queue, or returns `None` once the queue has been closed. Fails if memory is
-    /// refused, or no number is left.
+    /// Issues the next number of this queue, or returns `None` once the queue has been closed. Fails if memory can't be
+    /// allocated, or no number is left.
     pub fn new_unless_closed(
         rt: R,
         alloc: Global,
@@ -473,8 +475,8 @@ impl<T: Drop, R: Wait + Drop> Turn<T, R> {
         self.is_next
     }
 
-    // Waits for the turn, unless the number is held already, and holds the number. If memory for the wait is refused,
-    // retries until it succeeds.
+    // Waits for the turn, unless the number is held already, and holds the number. If memory for the wait can't be
+    // allocated, retries until it succeeds.
     fn wait(&mut self)
         ensures { IsSome self.new.item }
     {
@@ -500,7 +502,7 @@ impl<T: Drop, R: Wait + Drop> Turn<T, R> {
         unreachable!()
     }
 
-    /// Holds the number if its turn has come, without a wait. Returns whether it is held.
+    /// Holds the number if its turn has come, without waiting. Returns whether it is held.
     pub fn try_hold(&mut self) -> bool {
         if self.item.is_some() {
             return true;
@@ -516,8 +518,8 @@ impl<T: Drop, R: Wait + Drop> Turn<T, R> {
         }
     }
 
-    /// Waits for the turn, unless the number is held already, and returns the item. If memory for the wait is refused,
-    /// retries until it succeeds.
+    /// Waits for the turn, unless the number is held already, and returns the item. If memory for the wait can't be
+    /// allocated, retries until it succeeds.
     pub fn hold(&mut self) -> &mut T {
         self.wait();
         match &mut self.item {
@@ -570,7 +572,7 @@ pub struct Held<T, R: Wait> {
 }
 
 impl<T: Drop, R: Wait + Drop> Held<T, R> {
-    /// Creates a turn queue of this item, and holds its first number. Fails if memory is refused.
+    /// Creates a turn queue of this item, and holds its first number. Fails if memory can't be allocated.
     pub(crate) fn first(rt: R, alloc: Global, item: T) -> Result<Held<T, R>, AllocError>
         ensures { IfOk result (λ held. held.item.value ≡ item) }
     {

@@ -64,7 +64,7 @@ impl<T: Drop> ByNumber<T> {
     }
 
     /// Adds an entry under the next number. Fails with `Exhausted` if there are 2^64 - 1 numbers, and only then; with
-    /// `Memory` if memory is refused. A call that fails drops the value and changes nothing else.
+    /// `Memory` if memory can't be allocated. A call that fails drops the value and changes nothing else.
     #[inline(always)]
     pub fn push(&mut self, value: Option<T>) -> Result<(), TurnsError>
         ensures ok { OnOk result (self.new ≡ self.old ++ (value ∷ [])) }

@@ -4,7 +4,7 @@ ghost use Rattle.tiny_http_turns.specs.Turns.{Held, Finished, TurnStep, Goes, tu
 ghost use Rattle.tiny_http_turns.specs.TurnsLaw.{marks_after, first_held, numbers_below, texts_out, texts_left};
 ghost use Rattle.tiny_http_turns.specs.TurnsLaw.{text_waiting};
 
-/// The law of turns, which holds for every list of steps of a new `Turns`.
+/// The law of turns, which holds for every list of steps, that is, of calls to a new `Turns`.
 /// - `order`: numbers are first held in the order 0, 1, 2 and so on.
 /// - `one_at_a_time`: no number is held before every earlier one is finished.
 /// - `once`: the texts that came out for a number, then any that still waits, are those left for it, in order.

@@ -1,13 +1,13 @@
-//! Passing a turn on: the text of a held number is written and the number is finished, and then the same is done for
-//! each number directly after it for which a text was left.
+//! Passing a turn on: the text of a held number is written and the number is finished. The same is then done for the
+//! next number, and so on, until there is one for which no text was left.
 ghost use Rattle.std.specs.Prelude.{ℕ, List, Option};
 ghost use Rattle.std.specs.Global.{Vec as Bytes};
 ghost use Rattle.tiny_http_turns.specs.Passing.{holds, PassesOn};
 
 /// A held number in whose turn texts are written. `N` keeps the numbers, and `O` is the output; calls borrow both.
 pub trait HeldTurn<N, O> {
-    /// The effect of writing a text in the turn, as a relation between the turn and the output before it and those
-    /// after it.
+    /// The effect of writing a text in the turn, as a relation between the turn and the output before it, the text, and
+    /// the turn and the output after it.
     ghost writes: { Self → O → List ℕ → Self → O → Type 0 };
 
     /// The effect of finishing the number, as a relation between the turn and the numbers before it, the text that was
@@ -25,9 +25,9 @@ pub trait HeldTurn<N, O> {
         ensures { finishes self.old numbers.old result self.new numbers.new };
 }
 
-/// Writes the text of a held number and finishes that number, then does the same for each number directly after it for
-/// which a text was left. The function itself allocates nothing. It stops once it has written the texts of 2^64 further
-/// numbers, the last of which is then still held.
+/// Writes the text of a held number and finishes that number, then does the same for the next number, and so on, until
+/// there is one for which no text was left. The function itself allocates nothing. It also stops once it has written
+/// the texts of 2^64 further numbers, the last of which is then still held.
 pub fn pass_on<N, O, T: HeldTurn<N, O>>(
     turn: &mut T,
     numbers: &mut N,

@@ -14,7 +14,7 @@ use thiserror::Error;
 /// The reason why no number was issued.
 #[derive(Clone, Copy, Debug, PartialEq, Eq, Error)]
 pub enum TurnsError {
-    /// Memory for the number's entry was refused.
+    /// Memory for the number's entry couldn't be allocated.
     #[error("out of memory")]
     Memory,
     /// 2^64 - 1 numbers have been issued.
@@ -86,7 +86,7 @@ impl<T: Drop> Turns<T> {
     ghost use Rattle.tiny_http_turns.specs.Turns.{IsInOrder};
     ghost use Rattle.tiny_http_turns.specs.TurnsCalls.{new_turns, TakesTurn, PutsBack, Finishes, LeavesTurn, GivesBack};
 
-    /// Stores the item. No number has been issued yet.
+    /// Creates a `Turns` that stores this item. No number has been issued yet.
     pub fn new(alloc: Global, item: T) -> Turns<T>
         ensures in_order { IsInOrder result }
         ensures new { result ≡ new_turns item }
@@ -99,7 +99,7 @@ impl<T: Drop> Turns<T> {
     }
 
     /// Issues the next number, starting from 0. Fails with `Exhausted` if 2^64 - 1 numbers have been issued, and only
-    /// then; with `Memory` if memory for the entry is refused. A call that fails changes nothing.
+    /// then; with `Memory` if memory for the entry can't be allocated. A call that fails changes nothing.
     pub fn issue(&mut self) -> Result<u64, TurnsError>
         ensures in_order { IsInOrder self.new }
         ensures number { IfOk result (λ n. turn_answer Issue self.old.marks ≡ Issued n) }

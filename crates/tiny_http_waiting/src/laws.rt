@@ -9,8 +9,9 @@ ghost use Rattle.tiny_http_waiting.specs.WaitTableLaw.{Step, Event, Wait, token_
 ghost use Rattle.tiny_http_waiting.specs.WaitTableLaw.{NoneEndsServiceOf, HandsOutNothingOf, NoneOf};
 
 /// The law of the table, which holds for every table and every run of calls.
-/// - `kept`: if an event comes for a connection that is served, the next `wait` hands its item back.
-/// - `once`: whatever events come, a connection that is served isn't handed out again before it waits or leaves.
+/// - `kept`: if an event arrives for a connection that is served, the next `wait` hands its item back.
+/// - `once`: whatever events arrive for a connection that is served, its item isn't handed out again before `wait` or
+///   `leave` is called for it.
 /// - `waits`: a connection that waits still waits after any calls for other connections.
 /// - `handed_out`: the call that ends a wait hands out the item that was stored.
 /// - `not_forgotten`: if a connection waits, then after any calls for other connections, once its wait is over,

@@ -18,7 +18,7 @@ pub enum Slot<T> {
     Free,
     /// The connection waits for an event, at most until this time. The table holds its item.
     Waiting(T, Duration),
-    /// The connection is served. The flag is whether an event has come since its item was handed out.
+    /// The connection is served. The flag says whether an event has arrived since its item was handed out.
     Served(bool),
 }
 
@@ -113,7 +113,7 @@ impl<T: Drop> WaitTable<T> {
     }
 
     /// Adds a connection that is served, with no event kept, and returns its token, which no other connection has.
-    /// Fails if memory is refused, and then changes nothing.
+    /// Fails if memory can't be allocated, and then changes nothing.
     pub fn enter(&mut self) -> Result<usize, AllocError>
         ensures slots { Enters self.old.slots result self.new.slots }
         ensures earliest { self.new.earliest ≡ self.old.earliest }
@@ -143,7 +143,7 @@ impl<T: Drop> WaitTable<T> {
     }
 
     /// Makes a served connection wait for an event, at most until this time of a monotonic clock, and stores its item.
-    /// Returns the item if an event has come since it was handed out; the connection is then still served, and the
+    /// Returns the item if an event has arrived since it was handed out; the connection is then still served, and the
     /// event is no longer kept. Returns the item and changes nothing if no served connection has this token.
     pub fn wait(&mut self, token: usize, item: T, until: Duration) -> Option<T>
         ensures slots { (result, self.new.slots)
@@ -169,7 +169,7 @@ impl<T: Drop> WaitTable<T> {
         let slot = self.slots.get_mut(token)?;
         let before = mem::replace(slot, Slot::Free);
         if !before.is_free() {
-            // If memory is refused, the token isn't used again.
+            // If memory can't be allocated, the token isn't used again.
             let _ = self.free.push(token);
         }
         before.into_item()
@@ -193,7 +193,7 @@ impl<T: Drop> WaitTable<T> {
         Some((token, item))
     }
 
-    /// Returns how long the caller may wait for events at `now` before it calls `take_late`: no wait is over sooner.
+    /// Returns how long, from `now`, the caller may wait for events before it calls `take_late`: no wait ends sooner.
     /// Returns `None` only if no connection waits.
     pub fn time_left(&self, now: Duration) -> Option<Duration>
         ensures earliest { option_map as_nanos result ≡ nanos_left (as_nanos now) self.now.earliest }

@@ -23,8 +23,9 @@ use websocket::handshake::server::accept_key;
 pub enum Handshake<R: ReadDevice + Drop, W: WriteDevice + Drop, Rt: Wait + Drop> {
     /// The connection is a WebSocket. The stream reads and writes the bytes of its frames.
     Accepted(CustomStream<Body<R, Rt>, SequentialWriter<Outlet<W>, Rt>>),
-    /// The request doesn't ask for a WebSocket, its body isn't whole (which only `Standard` requires), or the limit of
-    /// upgraded connections is reached. The request can be answered, for example with the response of `refusal`.
+    /// The request doesn't ask for a WebSocket, its body isn't whole (`UpgradeError::UnfinishedBody`, only under
+    /// `Standard`), or the limit of upgraded connections is reached. The request can be answered, for example with the
+    /// response that `refusal` returns.
     Refused(RefusedUpgrade<R, W, Rt>),
 }
 
@@ -39,10 +40,11 @@ fn count_named(headers: &[Header], name: &str) -> usize
 }
 
 /// Returns the key that accepts a request for a WebSocket, which is the value of `Sec-WebSocket-Accept` (RFC 6455,
-/// section 4.2.2), or `None` for any other request. A request for a WebSocket is a `GET` in version 1.1 that asks for
-/// an upgrade to `websocket` (`Request::is_upgrade`, and the list of its `Upgrade` headers), whose first
-/// `Sec-WebSocket-Version` is 13, and which has exactly one `Sec-WebSocket-Key`, a valid one (RFC 6455, sections 4.2.1
-/// and 11.3.1).
+/// section 4.2.2), or `None` for any other request.
+///
+/// A request for a WebSocket is a `GET` in version 1.1 that asks for an upgrade (`Request::is_upgrade`) and lists
+/// `websocket` in its `Upgrade` headers. Its first `Sec-WebSocket-Version` is 13, and it has exactly one
+/// `Sec-WebSocket-Key`, which is valid (RFC 6455, sections 4.2.1 and 11.3.1).
 pub fn accepting_key<R: ReadDevice + Drop, W: WriteDevice + Drop, Rt: Wait + Drop>(
     request: &Request<R, W, Rt>,
 ) -> Option<[u8; 28]>
@@ -65,8 +67,9 @@ pub fn accepting_key<R: ReadDevice + Drop, W: WriteDevice + Drop, Rt: Wait + Dro
 }
 
 /// Upgrades a request for a WebSocket: sends the 101, dated `now`, in the request's turn. Returns `Refused`, with the
-/// request, if the request isn't for a WebSocket, its body isn't whole (which only `Standard` requires), or the limit
-/// of upgraded connections is reached. Fails if memory can't be allocated; then the request is dropped.
+/// request, if the request isn't for a WebSocket, its body isn't whole (`UpgradeError::UnfinishedBody`, only under
+/// `Standard`), or the limit of upgraded connections is reached. Fails if memory can't be allocated; then the request
+/// is dropped. A fault of the writer isn't reported.
 pub fn accept<R: ReadDevice + Drop, W: WriteDevice + Drop, Rt: Wait + Drop>(
     alloc: Global,
     request: Request<R, W, Rt>,
@@ -87,9 +90,9 @@ pub fn accept<R: ReadDevice + Drop, W: WriteDevice + Drop, Rt: Wait + Drop>(
     }
 }
 
-/// Returns the response to a request whose handshake was refused with this error: a 503 with its reason phrase as text
-/// if the limit of upgraded connections is reached, otherwise the response of `upgrade_required`. Fails if memory can't
-/// be allocated.
+/// Returns the response to a request whose handshake was refused with this error. If the limit of upgraded connections
+/// is reached, it is a 503 whose text is the code and its reason phrase; otherwise it is the response that
+/// `upgrade_required` returns. Fails if memory can't be allocated.
 pub fn refusal(alloc: Global, error: UpgradeError) -> io::Result<Response<Cursor<Vec<u8>>>>
     ensures full { error ≡ UpgradeError.TooMany → IfOk result (λ r. r.answer.status ≡ 503) }
     ensures other { error ≢ UpgradeError.TooMany → IfOk result (λ r. r.answer.status ≡ 426) }
@@ -100,9 +103,9 @@ pub fn refusal(alloc: Global, error: UpgradeError) -> io::Result<Response<Cursor
     upgrade_required(alloc)
 }
 
-/// Returns the response to a request that isn't for a WebSocket of version 13: a 426 with its reason phrase as text.
-/// The response states the version (RFC 6455, section 4.4) and offers the upgrade (RFC 9110, section 15.5.22); the
-/// offer is printed only under `Standard`. Fails if memory can't be allocated.
+/// Returns the response to a request that isn't for a WebSocket of version 13: a 426 whose text is the code and its
+/// reason phrase. The response states the version (RFC 6455, section 4.4) and offers the upgrade (RFC 9110, section
+/// 15.5.22); the offer is sent only under `Standard`. Fails if memory can't be allocated.
 pub fn upgrade_required(alloc: Global) -> io::Result<Response<Cursor<Vec<u8>>>>
     ensures { IfOk result (λ r. r.answer.status ≡ 426) }
 {

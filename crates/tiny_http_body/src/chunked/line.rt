@@ -11,7 +11,7 @@ use crate::chunked::{ChunkRules, LONGEST_LINE};
 use std::io::ErrorKind;
 use tiny_http_io::device::ReadDevice;
 
-/// The meaning of the bytes of a line: the states of a chunk size and, under `Standard`, of a field line.
+/// The meaning of the bytes of a line: their state as a chunk size and, under `Standard`, as a field line.
 #[derive(Clone, Copy, Drop)]
 pub(crate) struct Said {
     pub(crate) size: Size,

@@ -44,7 +44,7 @@ fn a_try_waits_for_the_lock(rt: HostRuntime) -> Result<(), Fail> {
     Ok(())
 }
 
-// A queue that woke no second thread would leave a value to wait.
+// If only one of the threads were woken, the second value would stay in the queue.
 #[test]
 fn each_waiting_thread_gets_its_value(rt: HostRuntime) -> Result<(), Fail> {
     let queue: Arc<MessagesQueue<u8>> = MessagesQueue::with_capacity(rt.alloc(), 8)?;
