@@ -108,7 +108,7 @@ fn counts(finding: &Finding, wanted: &[Finding]) -> bool {
     !is_asked(finding.word) || wanted.iter().any(|want| want.word == finding.word)
 }
 
-// Returns whether both results are equal, or both absent.
+// Returns whether the two results are equal, or both are absent.
 fn is_same(found: Option<&Finding>, want: Option<&Finding>) -> bool {
     match (found, want) {
         (Some(found), Some(want)) => found.word == want.word && found.text == want.text,
@@ -234,7 +234,7 @@ fn try_room(alloc: Global, row: &Row, bytes: usize) -> Result<Option<Difference>
     try_once(alloc, row, trial, wanted.as_slice())
 }
 
-// Returns how many bytes the additional writers of a row accept.
+// Returns how many bytes each additional writer of a row accepts.
 fn rooms_of(alloc: Global, row: &Row) -> Result<Vec<usize>, AllocError> {
     match &row.input.rooms {
         None => Ok(Vec::new(alloc)),

@@ -98,7 +98,8 @@ impl<R: Wait + Clock + Drop> Job for QueueJob<R> {
     }
 }
 
-/// Creates a job that plays `lines` on `queue` and then sets `has_ended`. Fails if there is no queue.
+/// Creates a job that plays `lines` on `queue` and then sets `has_ended`. Fails if there is no queue or if memory can't
+/// be allocated.
 pub fn job_of<R: Wait + Clock + Copy>(
     rt: &R,
     alloc: Global,

@@ -13,8 +13,8 @@ use std::time::Clock;
 use std::{io, thread};
 
 /// A handler of requests. `Q` is `ServerRequest<R>`, or any other `Request`, such as one that a test makes. Many
-/// threads may call the handler at once. (The request's type is a parameter because no generated proof covers an
-/// implementation of a trait that names that type itself.)
+/// threads may call the handler at once. (The request type is a parameter because no proof can be generated for an
+/// implementation of a trait that names `ServerRequest` directly.)
 pub trait Handler<R, Q> {
     /// Responds to a request. If the request is dropped without a response, for example because this call fails, it
     /// gets an empty 500. The server ignores the error.
@@ -24,8 +24,8 @@ pub trait Handler<R, Q> {
     ///
     /// The call may keep the request and respond later, from any thread. The next request is handed out in the
     /// meantime, once the body of the kept request has been read or given up; under `Standard`, if the kept request
-    /// asks for an upgrade, the next one is handed out only after the response. The call for the next request then
-    /// waits, when it responds, for the response to the kept request, and no further request of the connection is
+    /// asks for an upgrade, the next one is handed out only after the response. When the handler responds to that next
+    /// request, its call waits until the kept request has been answered, and no further request of the connection is
     /// handed out until then.
     ///
     /// What this call writes, up to 16,384 bytes, may be held until it has returned, and so may responses to earlier
@@ -75,10 +75,11 @@ impl<R: ServerRuntime> Server<R> {
     /// error, which is returned. Also fails if memory, descriptors or threads for its workers can't be obtained. A
     /// later client for which memory can't be allocated or a system call fails is disconnected.
     ///
-    /// A client takes a worker once the head of its next request, with a body that is read with it, has arrived in
-    /// full, or the time allowed for it has run out. The worker hands the client's requests to the handler one after
-    /// another, until no further request has arrived. A client that is idle, sends a head in pieces, or is being
-    /// disconnected takes no worker; one that is upgraded, or whose kept request reads the input, takes one.
+    /// A client takes a worker once the head of its next request, along with any body that is read together with the
+    /// head, has arrived in full, or the time allowed for it has run out. The worker hands the client's requests to the
+    /// handler one after another, until no further request has arrived. A client that is idle, sends a head in pieces,
+    /// or is being disconnected takes no worker; one that is upgraded, whose kept request reads the input, or whose
+    /// last responses are awaited takes one.
     ///
     /// There are four workers, or `Limits::workers` if that is less, and more while all are busy: up to
     /// `Limits::workers`, or any number without limits. Workers also hand the handler the requests that were queued
@@ -90,9 +91,9 @@ impl<R: ServerRuntime> Server<R> {
     /// under `Standard`; and at the end. A flush of a raw writer, an upgraded stream or a streamed body sends it, too,
     /// and so does a 100.
     ///
-    /// Once the first workers run, the server serves with a handler for good: clients that arrive after this call has
-    /// returned wait for the next call. Clients that arrived before are served until their connections or the server
-    /// end.
+    /// Once the first workers are running, the server serves with a handler for good: clients that arrive after this
+    /// call has returned wait for the next call. Clients that arrived before are served until the connection or the
+    /// server ends.
     ///
     /// A client that doesn't read its responses blocks its worker once the socket accepts no more bytes, and its
     /// further requests aren't read then: a client that sends many requests has to read responses at the same time.
@@ -152,17 +153,17 @@ impl<R: Host> Server<R> {
     /// after another, until `unblock` is called once, the server has been stopped, or accepting ends with an error,
     /// which is returned. The call returns when all threads have ended, each after its last response. It also fails if
     /// memory can't be allocated; the threads that were started have ended by then. It returns at once, as `recv` does,
-    /// if `serve` was called before and a client waits for its next call.
+    /// if `serve` was called earlier and a client waits for the next call to `serve`.
     ///
     /// This is the loop over `recv` that a program would write. Each response is sent when the handler makes it, and a
-    /// request may be kept and answered later. An error of the handler is ignored. With 0 threads the call returns at
+    /// request may be kept and answered later. Errors from the handler are ignored. With 0 threads the call returns at
     /// once, and nothing is answered.
     ///
     /// A thread waits for the turn of its response, for a client that accepts no more bytes, and for bytes of a body.
     /// So one client that sends as many requests as there are threads, and reads slowly, blocks them all: under limits
-    /// (`Server::with`) for as long as `least_rate` allows for a response of that length, and without limits possibly
-    /// forever. With `serve` a client blocks only its own worker, and a request takes fewer instructions. So this call
-    /// is for short responses to trusted clients.
+    /// (`Server::with`) for as long as `write_time` and `least_rate` allow for the response, and without limits
+    /// possibly forever. With `serve` a client blocks only its own worker, and a request takes fewer instructions. So
+    /// this call is for short responses to trusted clients.
     pub fn serve_by<H: Handler<R, ServerRequest<R>> + Sync>(
         &self,
         alloc: Global,
@@ -182,7 +183,7 @@ impl<R: Host> Server<R> {
         Ok(())
     }
 
-    // Responds to requests as `answer_until_unblocked` does, and then unblocks another thread if one still runs.
+    // Responds to requests as `answer_until_unblocked` does, and then unblocks another thread if one is still running.
     fn answer_on<H: Handler<R, ServerRequest<R>>>(
         &self,
         alloc: Global,

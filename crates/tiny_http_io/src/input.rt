@@ -327,8 +327,8 @@ impl<R: ReadDevice> Input<R> {
         // The reader isn't called again after an end or a fault.
         ensures once { IsSome (input_stop self.old)
             → IsSome (input_stop self.new) × (input_reader self.new ≡ input_reader self.old) }
-        // Whatever the reader states, an input that is over stays so, and each further call fails with the fault of its
-        // stop, or with `TooLong` if the limit is 0.
+        // Whatever the reader states, an input that is over stays so, and each further call fails with the fault that
+        // corresponds to how the input stopped, or with `TooLong` if the limit is 0.
         ensures limited { result ≡ Err LineFault.TooLong → IsSome left }
         ensures over { IfErr result (λ fault. fault ≢ LineFault.NotAscii → IsInputOver self.new) }
         ensures ended { IfErr result (λ fault. (fault ≡ LineFault.Memory) ⊎ (fault ≡ LineFault.TooLong)

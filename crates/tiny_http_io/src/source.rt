@@ -94,10 +94,10 @@ impl InputState {
 /// The buffered input of a connection. It also stores an `InputState`, which the crates that build on this one set.
 ///
 /// The buffer holds at most 1024 bytes. The reader is called only for a byte that isn't buffered, and never again after
-/// its first end or fault. Nothing is read ahead beyond what one call to the reader returns. The clauses `lazy` in
-/// `specs/Source.antt` state that a call that returned what was asked for encountered no end or fault. The clauses
-/// `calls` state that the reader reports at most one end or fault in all calls together. The exception is `read_ahead`,
-/// which always calls the reader.
+/// its first end or fault. Nothing is read ahead beyond what one call to the reader returns. The `lazy` clauses in
+/// `specs/Source.antt` state that a call that returned what was asked for encountered no end or fault. The `calls`
+/// clauses of the methods below state that the reader reports at most one end or fault in all calls together.
+/// `read_ahead` is an exception to all of this: it always calls the reader.
 #[derive(Drop)]
 pub struct Source<R: ReadDevice> {
     input: Input<R>,

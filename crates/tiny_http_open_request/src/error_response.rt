@@ -84,7 +84,7 @@ pub(crate) fn persistence_of(by_standard: bool, is_last: bool) -> Option<Persist
     }
 }
 
-// The body of the 505 that `Lenient` and `Strict` send to a version above 1.1.
+// The body of the 505 that is sent, under `Lenient` and `Strict`, in response to a head with a version above 1.1.
 const TOO_NEW: &str = "This server only supports HTTP versions 1.0 and 1.1";
 
 /// Prints the response to a head whose version is above 1.1, under `Lenient` and `Strict`: a 505 in version 1.1 with a

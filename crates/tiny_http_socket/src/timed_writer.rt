@@ -74,7 +74,7 @@ impl<Rt: Clock> TimedWriter<Rt> {
         self.rt.monotonic().unwrap_or(Duration::from_secs(0))
     }
 
-    // Records the beginning of a system call that is given this number of bytes.
+    // Returns an `Asked` for a system call that begins now and is given this number of bytes.
     fn ask(&self, bytes: usize) -> Asked {
         let begun = if self.has_waited {
             Some(self.now())
@@ -142,7 +142,7 @@ impl<Rt: Clock> TimedWriter<Rt> {
     }
 
     // Returns whether to retry a write: under limits, if the system call timed out and the time allowed for writes
-    // hasn't run out. Counts the time of the call, and shuts the connection down if that time has run out.
+    // hasn't run out. Counts the time of the call, and shuts the connection down if the time allowed has run out.
     fn tries_again(&mut self, asked: Asked, written: &io::Result<usize>) -> bool
         ensures { timed_sink self.new ≡ timed_sink self.old }
     {
@@ -184,7 +184,7 @@ impl<Rt: Clock> TimedWriter<Rt> {
     }
 }
 
-// Returns how long one system call may wait if a write may take this time.
+// Returns how long one system call may wait if a write may take this long.
 fn step(time: Duration) -> Duration {
     time.min(Duration::from_millis(STEP_MILLIS))
 }

@@ -107,7 +107,7 @@ impl<T> QueueState<T> {
 #[derive(Drop)]
 struct Shared<T> {
     queue: QueueState<T>,
-    // How many threads wait.
+    // How many threads are waiting.
     waiting: usize,
     // Whether a waiting thread was woken, and no thread has ended its wait since.
     is_waking: bool,
