@@ -84,7 +84,7 @@ pub fn header_line(alloc: Global, words: &str) -> Result<Header, LineFault> {
     }
 }
 
-/// Parses a header of the form `NAME: VALUE`. Fails if the text has no such form, or is not ASCII.
+/// Parses a header of the form `NAME: VALUE`. Fails if the text doesn't have this form, or is not ASCII.
 pub fn header(alloc: Global, words: &str) -> Result<Header, LineFault> {
     let line = text(alloc, words)?;
     let Some((name, value)) = line.as_str().split_once(": ") else {

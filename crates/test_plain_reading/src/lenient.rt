@@ -1,5 +1,5 @@
-//! A plain reading of what a client sends, under `Lenient`. It is given all bytes at once, and reads them line by line,
-//! without a buffer. The requests of connections are compared with those that it finds.
+//! A reference parser for what a client sends under `Lenient`. It takes all the bytes at once and parses them line by
+//! line, without a buffer. Tests compare the requests that a connection hands out with those that it finds.
 use crate::parts::{RequestWords, SHORT, add_header, decimal};
 use std::alloc::{AllocError, Global};
 
@@ -143,7 +143,7 @@ impl<'a> PlainHead<'a> {
     }
 
     // Returns whether the connection hands out the request or answers it with a 505. That is so if the first Expect
-    // header asks for a 100 and nothing else, or if there is no such header and the body is complete, is longer than
+    // header asks for a 100 and nothing else, or if there is no Expect header and the body is complete, is longer than
     // `SHORT` bytes, or has no known length.
     fn is_whole(&self) -> bool {
         let length = self.length().unwrap_or(0);

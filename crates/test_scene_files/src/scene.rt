@@ -49,7 +49,7 @@ pub struct Ground {
     pub is_alone: bool,
     /// Whether the scene must fail.
     pub has_to_fail: bool,
-    /// How often the scene is played in each of its ways.
+    /// How many times the scene is played each way.
     pub repeats: usize,
 }
 

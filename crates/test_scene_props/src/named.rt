@@ -57,7 +57,7 @@ pub fn is_named(lines: &[Line], name: &str) -> bool {
     })
 }
 
-/// Takes out the values that `lines` name.
+/// Removes and returns the values that `lines` name.
 pub fn part_of<T: Drop>(
     alloc: Global,
     all: &mut Vec<Named<T>>,

@@ -171,8 +171,8 @@ pub(crate) fn take_descriptors<R: Host>(
     Ok(())
 }
 
-// Compares the result of a call that receives a request with the expected one. If the expected request came, adds it
-// under its name.
+// Compares the expected result of a receiving call with the actual one. If the expected request came, adds it under its
+// name.
 fn take_given<R: Host>(
     alloc: Global,
     hands: &mut Hands<R>,
@@ -199,7 +199,7 @@ fn next_kept<R: Host>(rt: &R, hands: &Hands<R>) -> Option<ServerRequest<R>> {
     hands.handler.kept.pop_timeout(rt, most)
 }
 
-// Receives the next request in the scene's way (`Way`), waiting at most `LONGEST` seconds.
+// Receives the next request in the way that the scene prescribes (`Way`), waiting at most `LONGEST` seconds.
 fn next_given<R: Host>(
     rt: &R,
     hands: &Hands<R>,

@@ -42,7 +42,7 @@ pub(crate) enum Message<R: Wait + Clock + Drop> {
 impl<R: Wait + Clock + Drop> Message<R> {
     /// Converts a queue message to a request or an error, or to `None` if the queue was empty or the pop found an
     /// unblock mark. If the message is a client that is to be served, the client goes back into the queue, and the
-    /// result is `None`, too; if the queue has no room, the client is closed.
+    /// result is `None`, too; if memory can't be allocated for that, the client is disconnected.
     pub fn received(
         messages: &Messages<R>,
         rt: &R,
@@ -85,8 +85,8 @@ impl<R: Wait + Clock + Drop> Queuing<R> {
         }
     }
 
-    // Puts a message into the queue, or drops it if the queue has no room. Once the server has been closed, a message
-    // might never be taken from the queue, so a thread that adds one then empties the queue.
+    // Puts a message into the queue, or drops it if memory can't be allocated. Once the server has been closed, a
+    // message might never be taken from the queue, so a thread that adds one then empties the queue.
     fn push(&self, rt: &R, message: Message<R>) {
         let _ = self.messages.push(rt, message);
         if self.ending.is_closed() {
@@ -114,9 +114,9 @@ pub(crate) struct Reading<R: Wait + Clock + Drop> {
 }
 
 impl<R: Wait + Clock + Copy> Task for Reading<R> {
-    /// Puts the requests that have arrived into the queue, and closes the connection after the last one. If bytes of a
-    /// head have arrived in time, and the server now serves with a handler and isn't closed, puts the client itself
-    /// into the queue instead, to be served.
+    /// Puts the requests that have arrived into the queue. Once the connection has no further request and all are
+    /// answered, closes it. If bytes of a head have arrived in time, and the server now serves with a handler and isn't
+    /// closed, puts the client itself into the queue instead, to be served.
     fn run(&mut self, is_late: bool) -> Progress {
         let queuing = &*self.queuing;
         let may_move = !is_late

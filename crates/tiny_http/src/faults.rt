@@ -1,7 +1,7 @@
 //! The errors of `accept` that are temporary.
 use std::io;
 
-// Linux's errno values of temporary errors: a firewall rule (EPERM), a signal (EINTR), out of memory (ENOMEM, ENOBUFS),
+// Linux errno values for temporary errors: a firewall rule (EPERM), a signal (EINTR), out of memory (ENOMEM, ENOBUFS),
 // out of descriptors in the system (ENFILE) or the process (EMFILE), and errors of a connection before it was accepted
 // (ENONET, EPROTO, ENOPROTOOPT, EOPNOTSUPP, ENETDOWN, ENETUNREACH, ECONNABORTED, ECONNRESET, ETIMEDOUT, EHOSTDOWN,
 // EHOSTUNREACH).

@@ -275,7 +275,7 @@ impl<R: ServerRuntime> Server<R> {
     /// socket's file is removed first.
     ///
     /// Fails with `TooFewDescriptors` if the limits allow more than 1,000 connections, but not `usize::MAX`, and the
-    /// process may not open that many descriptors and ten more.
+    /// process isn't allowed to open that many descriptors plus ten.
     pub fn with(
         rt: R,
         alloc: Global,
@@ -522,9 +522,9 @@ impl<R: Net<Listener = TcpListener, Stream = TcpStream> + SocketFiles + Wait + C
 > {
     /// Stops the server, from any thread. No further client is accepted, connections that wait for a head are closed,
     /// clients that wait for a call to `serve` are disconnected, and requests in the queue are dropped, so that they
-    /// get a 500. The handler of `serve` still gets a request that is being read, if it has no body. A connection with an open
-    /// request is closed after its last response, which says so under `Standard` unless that response had already
-    /// begun.
+    /// get a 500. The handler of `serve` still gets a request that is being read, unless it has a body or asks for an
+    /// upgrade. A connection with an open request is closed after its last response, which says so under `Standard`
+    /// unless that response had already begun.
     ///
     /// The call waits, for at most `time`, until every request that was handed out is answered and every connection is
     /// closed; then `serve` and each call that waits for a request return. A later call to `stop` waits again, for the
@@ -552,7 +552,7 @@ impl<R: Net<Listener = TcpListener, Stream = TcpStream> + SocketFiles + Wait + C
 
 impl<R: Net + SocketFiles + Wait + Clock + Drop> Server<R> {
     /// Waits for a request for at most `timeout`, and returns `None` if none has arrived by then. A timeout of less
-    /// than a millisecond counts as 0. Otherwise the call is like `try_recv`.
+    /// than a millisecond counts as 0. In all other respects the call is like `try_recv`.
     pub fn recv_timeout(&self, timeout: Duration) -> io::Result<Option<ServerRequest<R>>> {
         let begun = time_of(&self.rt);
         let mut left = timeout;
@@ -604,8 +604,8 @@ impl<R: Net + SocketFiles + Wait + Clock + Drop> Server<R> {
 }
 
 impl<R: Net + SocketFiles + Wait + Clock + Drop> Drop for Server<R> {
-    /// Ends accepting, for which the server connects to itself once, removes the file of a Unix socket, and drops the
-    /// requests and the clients in the queue.
+    /// Ends accepting (to wake the accepting thread, the server connects to itself once), removes the file of a Unix
+    /// socket, and drops the requests and the clients in the queue.
     fn drop(self) {
         self.end_accepting();
         self.queuing.drop_waiting(&self.rt);

@@ -140,7 +140,7 @@ impl Pending {
         }
     }
 
-    /// Returns whether this number awaits its response and a response with this status code is refused.
+    /// Returns whether this number awaits its response, and that response may not have this status code.
     pub fn refuses(&self, number: u64, status: StatusCode) -> bool
         ensures { result ≡ refuses_at status.0 (slice_get self.now.requests number) }
     {
@@ -150,8 +150,8 @@ impl Pending {
         }
     }
 
-    /// Returns whether this number awaits its response and an upgrade to this protocol by a response with this status
-    /// code is refused.
+    /// Returns whether this number awaits its response and would be refused an upgrade to this protocol by a response
+    /// with this status code.
     pub fn refuses_upgrade(&self, number: u64, protocol: &str, status: StatusCode) -> bool
         ensures { result ≡ refuses_upgrade_at protocol.now status.0 (slice_get self.now.requests number) }
     {

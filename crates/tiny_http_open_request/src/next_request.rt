@@ -1,4 +1,4 @@
-//! Reading up to the next request of a connection, past refused heads that another head follows.
+//! Reading up to the next request of a connection, past any refused heads that don't end the requests.
 ghost use Rattle.std.specs.Prelude.{ℕ, List, Bool, is_ok};
 ghost use Rattle.tiny_http_open_request.specs.NextRequest.{at, FindsHead, FindsNext};
 
@@ -23,8 +23,8 @@ pub enum NextRequest {
 /// A destination for the responses to refused heads, each sent in the turn of its head. `O` is the output that each
 /// call borrows.
 pub trait RefusalPlace<O> {
-    /// The effect of `refuse`, as a relation of the place and the output before the call, the text, whether the call
-    /// accepted it, and the place and the output after the call.
+    /// The effect of `refuse`, as a relation between the place and the output before the call, the text, whether the
+    /// call accepted it, and the place and the output after the call.
     ghost refuses: { Self → O → List ℕ → Bool → Self → O → Type 0 };
 
     /// Accepts the complete response to a refused head, which must be sent in the turn of the head. The call must not

@@ -104,7 +104,7 @@ impl<Rt: Wait + Copy> ClientConnection<RefinedTcpStream, RefinedTcpStream, Rt> {
     ghost use Rattle.tiny_http_request.specs.Client.{IsOver, client_secure, client_address, client_profile};
     ghost use Rattle.tiny_http_request.specs.Client.{client_source, IsFreshSource};
 
-    /// Returns a connection over the two halves of a client's socket, before its first read, under `Lenient`. Its
+    /// Creates a connection over the two halves of a client's socket, under `Lenient`. Nothing is read yet. Its
     /// requests have the client's address, or none if the socket is a Unix socket or the system no longer knows the
     /// address. Fails if memory can't be allocated.
     pub fn new(
@@ -146,7 +146,7 @@ impl<R: ReadDevice + Drop, W: WriteDevice + Drop, Rt: Wait + Copy> ClientConnect
     ghost use Rattle.tiny_http_request.specs.Client.{IsOver, HandsOut, client_secure, client_address, client_profile};
     ghost use Rattle.tiny_http_request.specs.Client.{client_source, IsFreshSource, HandsOutNext, GivesInput};
 
-    /// Returns a connection over a writer and a reader, before its first read, under `Lenient`. Its requests have this
+    /// Creates a connection over a writer and a reader, under `Lenient`. Nothing is read yet. Its requests have this
     /// `remote_addr` and `secure`. Fails if memory can't be allocated.
     pub fn over(
         rt: Rt,
@@ -211,8 +211,8 @@ impl<R: ReadDevice + Drop, W: WriteDevice + Drop, Rt: Wait + Copy> ClientConnect
     ///
     /// The policy allows it once the connection hands out a request whose turn has come and whose body doesn't hold the
     /// input: it isn't read from the connection, and under `Standard` the request asks for no upgrade, or is the last.
-    /// The policy no longer allows it once any other request is handed out, or a raw writer, an upgrade, a streamed
-    /// body or a 100 begins. The caller must have the `Cork` of this policy send the held bytes: with
+    /// The policy no longer allows it once any other request is handed out, a raw writer is taken, an upgrade or a
+    /// streamed body begins, or a 100 is sent. The caller must have the `Cork` of this policy send the held bytes: with
     /// `send_unless_leaving` after each `next`, and with `send` at the end.
     pub fn set_flush_policy(&mut self, flush_policy: Arc<FlushPolicy>)
         ensures over { IsOver self.new ↔ IsOver self.old }
@@ -225,7 +225,7 @@ impl<R: ReadDevice + Drop, W: WriteDevice + Drop, Rt: Wait + Copy> ClientConnect
     }
 
     /// Makes `next` report to this state when it waits for a head, when it hands out a request, and when a refused head
-    /// ends the requests. Also makes it apply the state's limit of open requests, which is at least 2: before a head,
+    /// ends the requests. Also makes it apply the state's limit on open requests, which is at least 2: before a head,
     /// and before the response to a refused head, `next` waits until fewer are open. A `TimedReader` and a
     /// `TimedWriter` apply the timeouts.
     ///
@@ -268,8 +268,8 @@ impl<R: ReadDevice + Drop, W: WriteDevice + Drop, Rt: Wait + Copy> ClientConnect
     /// It also returns `None` once a response made with `with_close` has been sent; a call that waits for the client
     /// then returns when the client sends a head, or sends no more. The client of a socket sees end of file after the
     /// last response, as `Request::respond` says. Refused heads are answered in their turn, for which the call doesn't
-    /// wait. They end the requests, except that under `Lenient` and `Strict` the next head is read after a head with a
-    /// version above 1.1, unless that head names an upgrade or its body is chunked.
+    /// wait. They end the requests, except that under `Lenient` and `Strict` the next head is read after a 505, unless
+    /// the refused head names an upgrade or its body is chunked.
     pub fn next(&mut self, now: HttpDate) -> Result<Option<Request<R, W, Rt>>, AllocError>
         ensures over { IsOver self.old → (result ≡ Ok None) × IsOver self.new }
         ensures none { IfOk result (λ r. IfNone r (IsOver self.new)) }
@@ -385,11 +385,11 @@ impl<R: ReadDevice + Drop, W: WriteDevice + Drop, Rt: Wait + Copy> ClientConnect
 /// How much of a connection's next head has arrived.
 #[derive(Clone, Copy, Debug, PartialEq, Eq)]
 pub enum Readiness {
-    /// All of it, or `next` returns without a head. `next` may still wait: at the limit of open requests; for a request
-    /// that has the input, and for the head after that; for the rest of a head of more than 16,384 bytes; and for the
-    /// next head after one that is refused with 505.
+    /// All of it, or `next` returns without a head. `next` may still wait: while the limit on open requests is reached;
+    /// for a request that has the input, and for the head after that; for the rest of a head of more than 16,384 bytes;
+    /// and for the next head after one that is refused with 505.
     Ready,
-    /// Part of it.
+    /// Part of it, or only bytes that are skipped before it.
     Part,
     /// None of it.
     Idle,
@@ -481,14 +481,14 @@ impl<R: ReadAheadDevice + Drop, W: WriteDevice + Drop, Rt: Wait + Copy> ClientCo
 // The end of a head.
 const HEAD_END: &[u8] = b"\r\n\r\n";
 
-// The first bytes of a head that usually has no body.
+// The first bytes of a request that usually has no body.
 const PLAIN_START: &[u8] = b"GET ";
 
 // The headers that announce a body.
 const BODY_HEADERS: [&[u8]; 2] = [b"Content-Length", b"Transfer-Encoding"];
 
-// Returns whether these bytes begin with the whole head of a `GET` that announces no body. Then the head needn't be
-// read to know that it is whole.
+// Returns whether these bytes begin with the whole head of a `GET` that announces no body. If so, the head is known to
+// be whole without being parsed.
 fn begins_plainly(bytes: &[u8]) -> bool {
     if !bytes.starts_with(PLAIN_START) {
         return false;
@@ -546,8 +546,9 @@ fn ends_no_line<R: ReadAheadDevice>(source: &Source<R>, n: usize) -> bool {
         && memmem::find(ahead, b"\n\n").is_none()
 }
 
-// Returns whether the next head, with a body that is read with it, can be read from the bytes that the source holds and
-// those that its reader has read ahead: reads it from a copy. Fails if memory can't be allocated.
+// Returns whether the next head, along with any body that is read with it, can be read from the bytes that the source
+// holds and those that its reader has read ahead. Tries this on a copy of those bytes. Fails if memory can't be
+// allocated.
 fn is_whole<R: ReadAheadDevice>(
     alloc: Global,
     source: &Source<R>,
@@ -567,9 +568,8 @@ fn is_whole<R: ReadAheadDevice>(
     ))
 }
 
-// Returns where the head after a request is read from, or `None` if the request is the last: from the input if `held`
-// has it, and otherwise from the input once the request that took it has passed it on. Fails if memory can't be
-// allocated.
+// Returns the source of the head after a request: the input if `held` has it, and otherwise the input once the request
+// that took it has passed it on. Returns `None` if the request is the last. Fails if memory can't be allocated.
 fn next_head<R: ReadDevice + Drop, Rt: Wait + Copy>(
     source: &mut SequentialReaderBuilder<Source<R>, Rt>,
     is_last: bool,
@@ -638,7 +638,7 @@ fn set_policy(
     Ok(Some(Arc::try_clone(flush_policy)?))
 }
 
-// Waits, at the limit of open requests and refused heads, until one of them is finished.
+// If the limit on open requests and refused heads is reached, waits until one of them is finished.
 fn wait_if_full<W: WriteDevice + Drop, Rt: Wait + Copy>(
     sink: &SequentialWriterBuilder<Outlet<W>, Rt>,
     shared: &Option<Arc<SharedState>>,
@@ -650,8 +650,8 @@ fn wait_if_full<W: WriteDevice + Drop, Rt: Wait + Copy>(
     }
 }
 
-// A place for the responses to refused heads, each of which takes the next writer. It waits at the limit of open
-// requests.
+// A place for the responses to refused heads, each of which takes the next writer. It waits while the limit on open
+// requests is reached.
 #[derive(Drop)]
 struct NextWriter<'a> {
     shared: &'a Option<Arc<SharedState>>,

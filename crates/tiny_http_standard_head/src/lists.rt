@@ -29,8 +29,8 @@ fn has_word(value: &str, word: &str) -> bool
 /// Returns whether the fields with this name list this word. All fields with this name form one list (RFC 9110, section
 /// 5.3), whose elements are the texts between commas, stripped of spaces and tabs (RFC 9110, section 5.6.1). Name and
 /// word are compared case-insensitively (ASCII). The word must equal the whole element, so an element with parameters
-/// doesn't match a word without them. A comma in a quoted string also separates. The empty word matches an empty
-/// element.
+/// doesn't match a word without them. A comma in a quoted string separates elements, too. The empty word matches an
+/// empty element.
 pub fn has_element(headers: &[Header], name: &str, word: &str) -> bool
     ensures { result ≡ has_element name.now word.now headers.now }
 {

@@ -5,8 +5,8 @@
 //!
 //! The rules of sharing:
 //!
-//! - A value that threads share is under one lock, and a function here holds that lock only for operations in memory.
-//!   No function holds two locks, and none does I/O or runs a job under one.
+//! - A value that threads share, apart from a few atomic flags and counts, is under one lock, and a function here holds
+//!   that lock only for operations in memory. No function holds two locks, and none does I/O or runs a job under one.
 //! - In `turn_queue` and `sequential` the lock guards the numbers: whose turn it is, which texts were left, who waits.
 //!   The reader or writer itself goes to the thread that holds the turn, and only that thread touches it. A thread that
 //!   leaves or finishes a turn doesn't wait for any turn.

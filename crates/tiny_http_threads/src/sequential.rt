@@ -311,7 +311,7 @@ impl<W: Write + Drop, R: Wait + Drop> SequentialWriter<W, R> {
 
 impl<W: Write + WriteDevice + Drop, R: Wait + Drop> SequentialWriter<W, R> {
     /// Ends its turn with a text, which is written and flushed once the turn has come. Doesn't wait for any turn. After
-    /// the text of the last writer (`is_last`) `end_out` ends the output, even if the queue was closed after this call,
+    /// the text of the last writer (`is_last`), `end_out` ends the output, even if the queue is closed after this call
     /// but before the text is written. If the drop of an earlier `SequentialWriter` writes the text, the output isn't
     /// ended.
     #[doc(hidden)]
