@@ -1,7 +1,7 @@
 #!/usr/bin/env python3
 """Clients that hurt a server, tried on a program that serves under limits: run.py PROGRAM [NAME..]
 
-PROGRAM is called as PROGRAM ADDRESS, with 1,024 descriptors, and is told to stop by a line `stop` on its standard input: the program
+PROGRAM is called as PROGRAM [--lenient] [--connections N] ADDRESS, with 1,024 descriptors, and is told to stop by a line `stop` on its standard input: the program
 `bench_server`. Each trial prints one line. The default limits are taken for granted, so that all trials together take two and a half
 minutes. With names it makes those trials alone."""
 import os, re, resource, socket, subprocess, sys, threading, time
@@ -13,10 +13,10 @@ failed = []
 class Server:
     """The program, at a port of its own."""
 
-    def __init__(self, program, descriptors=1024):
+    def __init__(self, program, descriptors=1024, words=()):
         limit = lambda: resource.setrlimit(resource.RLIMIT_NOFILE, (descriptors, descriptors))
         pipe = subprocess.PIPE
-        self.process = subprocess.Popen([program, '127.0.0.1:0'], stdin=pipe, stdout=pipe, preexec_fn=limit)
+        self.process = subprocess.Popen([program, *words, '127.0.0.1:0'], stdin=pipe, stdout=pipe, preexec_fn=limit)
         self.port = int(re.search(rb':(\d+)', self.process.stdout.readline()).group(1))
 
     def connect(self, timeout=10):
@@ -145,12 +145,16 @@ def few_descriptors(program):
 
 
 def allowed_too_many(program):
-    """A server that is allowed more connections than the process may open descriptors says so at its start."""
+    """A server that is allowed more connections than the process may have descriptors says so at its start."""
     limit = lambda: resource.setrlimit(resource.RLIMIT_NOFILE, (1024, 1024))
-    words = [program, '--connections', '5000', '127.0.0.1:0']
-    ran = subprocess.run(words, capture_output=True, stdin=subprocess.DEVNULL, timeout=20, preexec_fn=limit, text=True)
-    ok = ran.returncode == 1 and '5000 connections' in ran.stderr and 'ulimit -n' in ran.stderr
-    report('allowed too many', ok, f'status {ran.returncode}; {ran.stderr.strip()}')
+    words = ['--lenient', '--connections', '5000']
+    command = [program, *words, '127.0.0.1:0']
+    ran = subprocess.run(command, capture_output=True, stdin=subprocess.DEVNULL, timeout=20, preexec_fn=limit, text=True)
+    ok = ran.returncode == 1 and '5000 connections' in ran.stderr and 'only 1024' in ran.stderr and 'ulimit -n' in ran.stderr
+    server = Server(program, 8192, words)
+    answers, _ = server.answers_within(5)
+    server.stop()
+    report('allowed too many', ok and answers, f'{ran.stderr.strip()}; with 8,192 it answers: {answers}')
 
 
 def long_head(server):

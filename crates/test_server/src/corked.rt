@@ -99,7 +99,7 @@ fn assert_next(
 fn assert_reads_ahead(rt: &impl Abort, alloc: Global) {
     let bytes = b"abcdef".to_vec(alloc).expect(rt, "memory");
     let reader = ByPieces::new(Canned::new(bytes, None), 3);
-    let mut ahead = ReadAhead::new(alloc, reader).expect(rt, "memory");
+    let mut ahead = ReadAhead::new(alloc, reader);
     let mut calls = Calls(0);
     let rows: [(&[u8], u32); 5] = [(b"ab", 1), (b"c", 1), (b"de", 2), (b"f", 2), (b"", 3)];
     for row in rows {

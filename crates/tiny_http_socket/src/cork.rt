@@ -301,7 +301,7 @@ pub fn halves<R: ReadDevice + Drop, W: WriteBoth + Drop, Rt: Wait + Drop>(
     ensures feed { IfOk result (λ halves. reader_feed halves.0 ≡ R.feed reader) }
     ensures sink { IfOk result (λ halves. writer_sink halves.1 ≡ fresh_sink) }
 {
-    let ahead = ReadAhead::new(alloc, reader)?;
+    let ahead = ReadAhead::new(alloc, reader);
     let cork = Arc::new(alloc, Cork::new(alloc, writer)?)?;
     let sending = Sending {
         cork: Arc::try_clone(&cork)?,

@@ -6,7 +6,7 @@ ghost use Rattle.tiny_http_io.specs.Device.{Reads, Tells, prepended, StopsBy};
 ghost use Rattle.tiny_http_io.specs.declared.device.Stop.TheVariants.{End, Fault};
 ghost use Rattle.tiny_http_socket.specs.declared.read_ahead.TheConstants.{PIECE};
 
-use std::alloc::{AllocError, Global};
+use std::alloc::Global;
 use std::io;
 use std::io::ErrorKind;
 use std::marker::Model;
@@ -105,18 +105,17 @@ fn read_after_held<R: ReadDevice>(
 impl<R: ReadDevice + Drop> ReadAhead<R> {
     ghost use Rattle.tiny_http_socket.specs.ReadAhead.{ahead_feed};
 
-    /// Wraps a reader, with no byte read ahead. Fails if memory can't be allocated.
-    pub fn new(alloc: Global, reader: R) -> Result<ReadAhead<R>, AllocError>
-        ensures { IfOk result (λ a. (a.reader ≡ reader) × (a.held ≡ []) × (a.feed ≡ R.feed reader)) }
+    /// Wraps a reader, with no byte read ahead. The first read allocates the memory for a piece.
+    pub fn new(alloc: Global, reader: R) -> ReadAhead<R>
+        ensures { (result.reader ≡ reader) × (result.held ≡ []) × (result.feed ≡ R.feed reader) }
     {
-        let piece = Vec::from_elem(alloc, 0, PIECE)?;
-        Ok(ReadAhead {
+        ReadAhead {
             reader,
-            piece,
+            piece: Vec::new(alloc),
             start: 0,
             end: 0,
             is_drained: true,
-        })
+        }
     }
 }
 
