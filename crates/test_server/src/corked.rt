@@ -10,9 +10,9 @@ use tiny_http_socket::read_ahead::{BeforeRead, ReadAhead};
 use tiny_http_wire::device::{Budget, ByPieces, Canned, WriteDevice};
 
 // Creates a writer that accepts `room` bytes, with an empty buffer.
-fn corked_of(rt: &impl Abort, alloc: Global, room: usize) -> Corked<Budget> {
+fn corked_of(alloc: Global, room: usize) -> Corked<Budget> {
     let writer = Budget::new(alloc, room, ErrorKind::BrokenPipe);
-    Corked::new(alloc, writer).expect(rt, "memory")
+    Corked::new(alloc, writer)
 }
 
 // Asserts that one write accepts all of these bytes.
@@ -23,7 +23,7 @@ fn assert_takes(rt: &impl Abort, corked: &mut Corked<Budget>, bytes: &[u8]) {
 
 // Asserts that bytes that fit are buffered, and that a flush sends them.
 fn assert_waits(rt: &impl Abort, alloc: Global) {
-    let mut corked = corked_of(rt, alloc, 100);
+    let mut corked = corked_of(alloc, 100);
     assert_takes(rt, &mut corked, b"ab");
     assert_takes(rt, &mut corked, b"c");
     assert_same(rt, corked.waiting(), b"abc".as_slice());
@@ -34,7 +34,7 @@ fn assert_waits(rt: &impl Abort, alloc: Global) {
 
 // Asserts that a large piece bypasses the buffer, and is sent after the buffered bytes.
 fn assert_goes_past(rt: &impl Abort, alloc: Global) {
-    let mut corked = corked_of(rt, alloc, 100_000);
+    let mut corked = corked_of(alloc, 100_000);
     assert_takes(rt, &mut corked, b"ab");
     let piece = vec![in alloc; b'A'; 20_000].expect(rt, "memory");
     assert_takes(rt, &mut corked, &piece);
@@ -52,7 +52,7 @@ fn fault_of(corked: &mut Corked<Budget>) -> Option<ErrorKind> {
 // Asserts that an error in sending the buffered bytes is reported once, by the next write, and is counted as a failure
 // only then.
 fn assert_tells_once(rt: &impl Abort, alloc: Global) {
-    let mut corked = corked_of(rt, alloc, 3);
+    let mut corked = corked_of(alloc, 3);
     assert_takes(rt, &mut corked, b"abcd");
     corked.send_waiting();
     assert_same(rt, corked.failures(), 0);

@@ -1,7 +1,7 @@
 //! The workers that read or serve a server's connections. A connection that waits for its client takes no worker.
 //!
 //! One worker at a time waits on the `Poll` for events. It serves the first ready connection itself, and wakes an idle
-//! worker for the others, which wakes the next one. While all workers serve, none waits on the `Poll`: if that lasts,
+//! worker for every few others. While all workers serve, none waits on the `Poll`: if that lasts,
 //! another thread, the watcher, wakes or starts a worker. So a quick handler costs few thread switches, and a slow one
 //! delays other connections by only a few milliseconds.
 use crate::registry::time_of;
@@ -16,11 +16,15 @@ use std::thread::Threads;
 use std::time::{Clock, Duration};
 use std::{io, mem, thread};
 use tiny_http_threads::task_pool::{IDLE_MILLIS, MIN_THREADS};
+use tiny_http_waiting::idle_threads::IdleThreads;
 use tiny_http_waiting::ready_queue::{ReadyQueue, Turn};
 use tiny_http_waiting::wait_table::WaitTable;
 
 // Maximum number of events that are taken at once.
 const MOST_EVENTS: usize = 64;
+
+// The number of ready tasks for which one idle worker is woken: a wake costs about as much time as some tasks take.
+const TASKS_OF_A_WAKE: usize = 4;
 
 // How long ready tasks wait before the watcher wakes or starts workers for those that weren't taken, in milliseconds.
 const STALL_MILLIS: u64 = 2;
@@ -72,9 +76,7 @@ struct CrewState<T> {
     // The time until which the worker waits for events, if there is such a worker.
     polls_until: Duration,
     running: usize,
-    idle: usize,
-    // Whether an idle worker was woken, and none has ended its rest since.
-    is_waking: bool,
+    threads: IdleThreads,
     // How often a worker has taken a task or the poller.
     turns: u64,
     watcher_rests: bool,
@@ -169,16 +171,15 @@ pub(crate) struct Crew<T> {
 }
 
 impl<T: Task + Drop> Crew<T> {
-    // Wakes a worker if tasks are ready: an idle one, which wakes the next, or, if there is none, the one that waits
-    // for events. Wakes the watcher if it rests.
+    // Wakes workers if tasks are ready: an idle one for each `TASKS_OF_A_WAKE` of them, or, if none is idle, the one that
+    // waits for events. Wakes the watcher if it rests.
     fn wake(&self, state: &mut CrewState<T>) {
-        if !state.ready.is_empty() {
-            if state.idle == 0 {
-                self.wake_poller(state);
-            } else if !state.is_waking {
-                state.is_waking = true;
-                self.worker_woken.notify_one();
-            }
+        let wanted = state.ready.len().div_ceil(TASKS_OF_A_WAKE);
+        for _ in 0..state.threads.wake(wanted) {
+            self.worker_woken.notify_one();
+        }
+        if wanted > 0 && state.threads.idle == 0 {
+            self.wake_poller(state);
         }
         if state.watcher_rests {
             state.watcher_rests = false;
@@ -294,7 +295,7 @@ impl<T: Task + Drop> Crew<T> {
         mut state: MutexGuard<'a, CrewState<T>>,
         worker: usize,
     ) -> (MutexGuard<'a, CrewState<T>>, bool) {
-        state.idle = state.idle.saturating_add(1);
+        state.threads.begin_rest();
         let mut timed_out = false;
         if worker >= MIN_THREADS {
             let timeout = Duration::from_millis(IDLE_MILLIS);
@@ -304,8 +305,7 @@ impl<T: Task + Drop> Crew<T> {
         } else {
             state = self.worker_woken.wait(rt, state);
         }
-        state.idle = state.idle.saturating_sub(1);
-        state.is_waking = false;
+        state.threads.end_rest();
         let has_ended = timed_out && !state.is_unattended();
         if has_ended {
             state.running = state.running.saturating_sub(1);
@@ -438,8 +438,7 @@ impl<T: Task + Drop + Send + 'static> Crew<T> {
             poller: Some(Poller { poll, events }),
             polls_until: Duration::MAX,
             running: 0,
-            idle: 0,
-            is_waking: false,
+            threads: IdleThreads::new(),
             turns: 0,
             watcher_rests: false,
             is_closed: false,
@@ -525,7 +524,7 @@ fn watch<T: Task + Drop + Send + 'static, R: Threads + Wait + Clock + Copy + Sen
             continue;
         }
         let wanted = waiting.saturating_sub(taken) as usize;
-        let idle = state.idle;
+        let idle = state.threads.idle;
         let more = wanted
             .saturating_sub(idle)
             .min(crew.most.saturating_sub(state.running));

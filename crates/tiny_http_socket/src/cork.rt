@@ -77,7 +77,7 @@ pub struct Cork<W: WriteBoth + Drop> {
 impl<W: WriteBoth + Drop> Cork<W> {
     // Wraps a writer with an empty buffer. Fails if memory can't be allocated.
     fn new(alloc: Global, writer: W) -> Result<Cork<W>, AllocError> {
-        let corked = Corked::new(alloc, writer)?;
+        let corked = Corked::new(alloc, writer);
         let flush_policy = Arc::new(alloc, FlushPolicy::new())?;
         Ok(Cork {
             flush_policy,

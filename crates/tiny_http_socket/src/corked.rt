@@ -1,5 +1,5 @@
 //! A writer with a buffer, which sends the bytes of several writes together.
-ghost use Rattle.std.specs.Prelude.{◌≡◌, ◌≢◌, ◌≤◌, ◌++◌, false, [], length, vec_len, None, Some, Ok, IfOk, IfErr};
+ghost use Rattle.std.specs.Prelude.{◌≡◌, ◌≢◌, ◌≤◌, ◌++◌, false, [], length, vec_len, None, Some, Ok, IfErr};
 ghost use Rattle.std.specs.Prelude.{IfSome, OnOk, OnErr, IsOk};
 ghost use Rattle.std.specs.IoError.{error_kind};
 ghost use Rattle.tiny_http_io.specs.Device.{BeginsKnown, Failed, Puts, PutsFront, HoldsNothing, next_count};
@@ -7,7 +7,7 @@ ghost use Rattle.tiny_http_socket.specs.declared.corked.TheConstants.{ROOM};
 ghost use Rattle.tiny_http_socket.specs.declared.corked.State.TheVariants.{Open, Ended};
 
 use crate::write_both::WriteBoth;
-use std::alloc::{AllocError, Global};
+use std::alloc::Global;
 use std::io;
 use std::io::ErrorKind;
 use std::marker::Model;
@@ -60,20 +60,20 @@ impl<W: WriteBoth> Model for Corked<W> {
 impl<W: WriteBoth + Drop> Corked<W> {
     ghost use Rattle.tiny_http_socket.specs.Corked.{corked_sink, unreported};
 
-    /// Wraps a writer with an empty buffer and no failures counted. Fails if memory can't be allocated.
-    pub fn new(alloc: Global, writer: W) -> Result<Corked<W>, AllocError>
-        ensures writer { IfOk result (λ c. (c.writer ≡ writer) × (c.sink ≡ W.sink writer)) }
-        ensures none { IfOk result (λ c. (c.waiting ≡ []) × (unreported c ≡ None)) }
-        ensures sink { IfOk result (λ c. corked_sink c ≡ record (W.sink writer) { failures = 0; last_kind = None }) }
+    /// Wraps a writer with an empty buffer and no failures counted. The first write that needs the buffer allocates its
+    /// memory.
+    pub fn new(alloc: Global, writer: W) -> Corked<W>
+        ensures writer { (result.writer ≡ writer) × (result.sink ≡ W.sink writer) }
+        ensures none { (result.waiting ≡ []) × (unreported result ≡ None) }
+        ensures sink { corked_sink result ≡ record (W.sink writer) { failures = 0; last_kind = None } }
     {
-        let waiting = Vec::with_capacity(alloc, ROOM)?;
-        Ok(Corked {
+        Corked {
             writer,
-            waiting,
+            waiting: Vec::new(alloc),
             state: State::Open,
             failures: 0,
             last: None,
-        })
+        }
     }
 }
 

@@ -9,6 +9,7 @@ use std::collections::VecDeque;
 use std::marker::Model;
 use std::sync::{Arc, Condvar, Mutex, MutexGuard, Wait};
 use std::time::{Clock, Duration, Instant};
+use tiny_http_waiting::idle_threads::IdleThreads;
 
 /// The result of popping the front of a queue.
 #[derive(Debug, PartialEq, Eq, Drop)]
@@ -103,36 +104,19 @@ impl<T> QueueState<T> {
     }
 }
 
-// A queue, and what is known of the threads that wait for it.
+// A queue, and the threads that wait for it.
 #[derive(Drop)]
 struct Shared<T> {
     queue: QueueState<T>,
-    // How many threads are waiting.
-    waiting: usize,
-    // Whether a waiting thread was woken, and no thread has ended its wait since.
-    is_waking: bool,
+    threads: IdleThreads,
 }
 
 impl<T> Shared<T> {
-    // Returns whether a waiting thread must be woken now, and if so records that one is being woken. One must be if
-    // there is something to pop and no other thread is being woken. The woken thread calls this again.
+    // Returns whether a waiting thread must be woken now, which then counts as woken: if there is something to pop, and
+    // no other thread is being woken. The woken thread calls this again.
     fn takes_wake(&mut self) -> bool {
-        let wakes = self.waiting > 0 && !self.is_waking && !self.queue.is_empty();
-        if wakes {
-            self.is_waking = true;
-        }
-        wakes
-    }
-
-    // Begins a wait.
-    fn begin_wait(&mut self) {
-        self.waiting = self.waiting.saturating_add(1);
-    }
-
-    // Ends a wait.
-    fn end_wait(&mut self) {
-        self.waiting = self.waiting.saturating_sub(1);
-        self.is_waking = false;
+        let wanted = usize::from(!self.queue.is_empty());
+        self.threads.wake(wanted) > 0
     }
 }
 
@@ -154,8 +138,7 @@ impl<T: Drop> MessagesQueue<T> {
     ) -> Result<Arc<MessagesQueue<T>>, AllocError> {
         let shared = Shared {
             queue: QueueState::with_capacity(alloc, capacity)?,
-            waiting: 0,
-            is_waking: false,
+            threads: IdleThreads::new(),
         };
         let queue = MessagesQueue {
             shared: Mutex::new(shared),
@@ -212,9 +195,9 @@ impl<T> MessagesQueue<T> {
         for _ in rt.forever() {
             match shared.queue.pop() {
                 Popped::Empty => {
-                    shared.begin_wait();
+                    shared.threads.begin_rest();
                     shared = self.woken.wait(rt, shared);
-                    shared.end_wait();
+                    shared.threads.end_rest();
                 }
                 found => {
                     self.wake(shared);
@@ -247,9 +230,9 @@ impl<T> MessagesQueue<T> {
             let Some(left) = time_left(timeout, elapsed) else {
                 break;
             };
-            shared.begin_wait();
+            shared.threads.begin_rest();
             shared = self.woken.wait_timeout(rt, shared, left).0;
-            shared.end_wait();
+            shared.threads.end_rest();
             found = shared.queue.pop();
         }
         self.wake(shared);
