@@ -24,11 +24,9 @@ use std::time::{Clock, Duration};
 use std::{env, fs, io, thread};
 use thiserror::Error;
 use tiny_http::response::Response;
-use tiny_http::server::{
-    Server, ServerConfig, ServerError, ServerRequest, ServerRuntime, current_date,
-};
+use tiny_http::server::{Server, ServerError, ServerRequest, ServerRuntime, current_date};
 use tiny_http::serving::Handler;
-use tiny_http::{ConfigListenAddr, Limits, Profile};
+use tiny_http::{Limits, Profile, ServerOptions};
 
 // Seconds between two lines of counts.
 const REPORT_SECS: u64 = 60;
@@ -153,11 +151,13 @@ fn listen<R: ServerRuntime>(
     words: &[String],
 ) -> Result<Arc<Server<R>>, BenchFault> {
     let options = asked(words)?;
-    let addr = ConfigListenAddr::from_socket_addrs(&rt, alloc, options.address).map_err(
-        ServerError::from,
+    let open_port = ServerOptions::open_port().with_profile(options.profile);
+    let server = Server::bind(
+        rt,
+        alloc,
+        options.address,
+        open_port.with_limits(options.limits),
     )?;
-    let config = ServerConfig { addr, ssl: None };
-    let server = Server::with(rt, alloc, config, options.profile, options.limits)?;
     Ok(Arc::new(alloc, server).map_err(|_| AllocError)?)
 }
 

@@ -29,8 +29,8 @@ use tiny_http::chunked::Decoder;
 use tiny_http::device::{Metered, ReadDevice, WriteDevice};
 use tiny_http::encoder::Encoder;
 use tiny_http::{
-    ConfigListenAddr, Handler, Host, Limits, Method, Profile, Request, Response, Server,
-    ServerConfig, StatusCode, StreamedForm, current_date,
+    Handler, Host, Method, Request, Response, Server, ServerOptions, StatusCode, StreamedForm,
+    current_date,
 };
 use tiny_http_client::answer_head::AnswerHead;
 
@@ -162,9 +162,7 @@ fn serve<Rt: Host, O: Write>(
     gateway: Gateway,
     out: &mut O,
 ) -> io::Result<()> {
-    let addr = ConfigListenAddr::from_socket_addrs(&rt, alloc, address)?;
-    let config = ServerConfig { addr, ssl: None };
-    let server = Server::with(rt, alloc, config, Profile::Standard, Limits::new())?;
+    let server = Server::bind(rt, alloc, address, ServerOptions::open_port())?;
     writeln!(out, "listening on {}", server.server_addr())?;
     out.flush()?;
     match Arc::new(alloc, gateway) {

@@ -8,22 +8,17 @@ use std::alloc::Global;
 use std::io::ErrorKind;
 use std::sync::Arc;
 use std::{env, io};
-use tiny_http::device::{ReadDevice, WriteDevice};
-use tiny_http::{
-    ConfigListenAddr, Handler, Host, Limits, Profile, Request, Response, Server, ServerConfig,
-    current_date,
-};
+use tiny_http::{AnyRequest, Handler, Response, Server, ServerOptions};
 
 /// A handler that answers a request with its path. The request may come from a server or a test.
 #[derive(Drop)]
 struct ByPath;
 
-impl<R: ReadDevice + Drop, W: WriteDevice + Drop, Rt: Host> Handler<Rt, Request<R, W, Rt>>
-    for ByPath {
+impl<Rt, Q: AnyRequest> Handler<Rt, Q> for ByPath {
     /// Sends the path as the response's body.
-    fn handle(&self, rt: &Rt, alloc: Global, request: Request<R, W, Rt>) -> io::Result<()> {
+    fn handle(&self, _rt: &Rt, alloc: Global, request: Q) -> io::Result<()> {
         let path = String::from_str(alloc, request.path())?;
-        request.respond(Response::from_string(alloc, path)?, current_date(rt))
+        request.reply(Response::from_string(alloc, path)?)
     }
 }
 
@@ -32,8 +27,6 @@ fn main(rt: HostRuntime) -> io::Result<()> {
     let [_, address] = words.as_slice() else {
         return Err(ErrorKind::InvalidInput.into());
     };
-    let addr = ConfigListenAddr::from_socket_addrs(&rt, rt.alloc(), address.as_str())?;
-    let config = ServerConfig { addr, ssl: None };
-    let server = Server::with(rt, rt.alloc(), config, Profile::Standard, Limits::new())?;
+    let server = Server::bind(rt, rt.alloc(), address.as_str(), ServerOptions::open_port())?;
     server.serve(rt.alloc(), &Arc::new(rt.alloc(), ByPath)?)
 }

@@ -6,7 +6,7 @@
 //! before a response has begun, the request is dropped, which answers it with an empty 500.
 //!
 //! The program shows routes with `matchit`, JSON with `serde_json`, state shared by threads, a body read whole
-//! (`read_body`), a body that grows while it is sent (`respond_streaming`), and a handler that accepts any `Request`.
+//! (`read_whole`), a body that grows while it is sent (`reply_streaming`), and a handler that accepts any request.
 #![tactic(auto)]
 
 mod notes;
@@ -15,12 +15,9 @@ use crate::notes::{Notebook, fault};
 use std::alloc::Global;
 use std::io::{ErrorKind, Write};
 use std::sync::{Arc, Wait};
-use std::time::Clock;
 use std::{env, io};
-use tiny_http::device::{ReadDevice, WriteDevice};
 use tiny_http::{
-    BodyError, ConfigListenAddr, Handler, Host, Limits, Method, Profile, Request, Response, Server,
-    ServerConfig, StatusCode, current_date,
+    AnyRequest, BodyError, Handler, Host, Method, Response, Server, ServerOptions, StatusCode,
 };
 
 // Maximum length of a body in bytes.
@@ -28,16 +25,16 @@ const MOST: usize = 1 << 16;
 
 impl Notebook {
     // Sends the notes as server-sent events. The lock isn't held while a write waits for the client.
-    fn send_events<R: ReadDevice + Drop, W: WriteDevice + Drop, Rt: Clock + Wait + Drop>(
+    fn send_events<Rt: Wait, Q: AnyRequest>(
         &self,
         rt: &Rt,
         alloc: Global,
-        request: Request<R, W, Rt>,
+        request: Q,
     ) -> io::Result<()> {
         let values = self.values(rt, alloc)?;
         let head = Response::empty(alloc, StatusCode(200));
         let head = head.with(alloc, "Content-Type", "text/event-stream")?;
-        let mut body = request.respond_streaming(head, current_date(rt))?;
+        let mut body = request.reply_streaming(head)?;
         for value in values.iter() {
             // `serde_json` writes no line breaks, so each note is one event.
             write!(body, "data: {value}\n\n")?;
@@ -47,24 +44,21 @@ impl Notebook {
     }
 }
 
-impl<R: ReadDevice + Drop, W: WriteDevice + Drop, Rt: Clock + Wait + Drop> Handler<
-    Rt,
-    Request<R, W, Rt>,
-> for Notebook {
+impl<Rt: Wait, Q: AnyRequest> Handler<Rt, Q> for Notebook {
     /// Answers a request for the notes or the events.
-    fn handle(&self, rt: &Rt, alloc: Global, request: Request<R, W, Rt>) -> io::Result<()> {
+    fn handle(&self, rt: &Rt, alloc: Global, request: Q) -> io::Result<()> {
         let mut request = request;
         let is_read = matches!(request.method(), Method::Get | Method::Head);
         if is_read && request.path() == "/events" {
             return self.send_events(rt, alloc, request);
         }
-        let answer = match request.read_body(alloc, MOST, current_date(rt)) {
+        let answer = match request.read_whole(MOST) {
             Ok(body) => self.answer(rt, alloc, request.method(), request.path(), body.as_slice())?,
             Err(BodyError::TooLong) => fault(alloc, 413, "too long")?,
             Err(BodyError::Cut | BodyError::Broken) => fault(alloc, 400, "a body that is cut")?,
             Err(error) => return Err(error.into()),
         };
-        request.respond(answer, current_date(rt))
+        request.reply(answer)
     }
 }
 
@@ -76,10 +70,8 @@ fn serve<Rt: Host, O: Write>(rt: Rt, alloc: Global, address: &str, out: &mut O) 
     let Ok(handler) = Arc::new(alloc, notebook) else {
         return Err(ErrorKind::OutOfMemory.into());
     };
-    let addr = ConfigListenAddr::from_socket_addrs(&rt, alloc, address)?;
-    let config = ServerConfig { addr, ssl: None };
     // Under `Standard` a body that is refused as too long ends its connection.
-    let server = Server::with(rt, alloc, config, Profile::Standard, Limits::new())?;
+    let server = Server::bind(rt, alloc, address, ServerOptions::open_port())?;
     writeln!(out, "listening on {}", server.server_addr())?;
     out.flush()?;
     server.serve(alloc, &handler)

@@ -18,11 +18,11 @@ use std::time::Clock;
 use std::{env, fs, io};
 use tiny_http::answer::read_answer;
 use tiny_http::client::ClientConnection;
-use tiny_http::device::{Canned, ReadDevice, WriteDevice};
+use tiny_http::device::Canned;
 use tiny_http::test::Nowhere;
 use tiny_http::{
-    ConfigListenAddr, Handler, Host, Limits, Method, Profile, Request, Response, Server,
-    ServerConfig, StatusCode, current_date,
+    AnyRequest, Handler, Host, Method, Profile, Response, Server, ServerOptions, StatusCode,
+    current_date,
 };
 
 // Number of threads that answer.
@@ -55,12 +55,8 @@ struct Recorded {
 }
 
 // Reads a request's body, and returns the parts by which the request is matched.
-fn asked_of<R: ReadDevice + Drop, W: WriteDevice + Drop, Rt: Clock + Wait + Drop>(
-    rt: &Rt,
-    alloc: Global,
-    request: &mut Request<R, W, Rt>,
-) -> io::Result<Asked> {
-    let body = request.read_body(alloc, MOST, current_date(rt))?;
+fn asked_of<Q: AnyRequest>(alloc: Global, request: &mut Q) -> io::Result<Asked> {
+    let body = request.read_whole(MOST)?;
     Ok(Asked {
         method: request.method().try_clone()?,
         target: String::from_str(alloc, request.url())?,
@@ -86,7 +82,7 @@ fn exchange_of<Rt: Clock + Wait + Copy>(
     };
     Ok(Exchange {
         name,
-        asked: asked_of(&rt, alloc, &mut request)?,
+        asked: asked_of(alloc, &mut request)?,
         answer,
         is_used: false,
     })
@@ -144,19 +140,12 @@ impl Recorded {
     }
 }
 
-impl<R: ReadDevice + Drop, W: WriteDevice + Drop, Rt: Clock + Wait + Drop> Handler<
-    Rt,
-    Request<R, W, Rt>,
-> for Recorded {
+impl<Rt: Wait, Q: AnyRequest> Handler<Rt, Q> for Recorded {
     /// Sends the recorded response to a request, the names for `GET /unused`, or an error.
-    fn handle(&self, rt: &Rt, alloc: Global, request: Request<R, W, Rt>) -> io::Result<()> {
+    fn handle(&self, rt: &Rt, alloc: Global, request: Q) -> io::Result<()> {
         let mut request = request;
-        let asked = match asked_of(rt, alloc, &mut request) {
-            Ok(asked) => asked,
-            Err(_) => {
-                let answer = Response::status(alloc, StatusCode(413))?;
-                return request.respond(answer, current_date(rt));
-            }
+        let Ok(asked) = asked_of(alloc, &mut request) else {
+            return request.reply_status(StatusCode(413));
         };
         if let Some(answer) = self.take(rt, &asked)? {
             let read = read_answer(alloc, &asked.method, answer.as_slice());
@@ -172,9 +161,9 @@ impl<R: ReadDevice + Drop, W: WriteDevice + Drop, Rt: Clock + Wait + Drop> Handl
         }
         if asked.method == Method::Get && asked.target.as_str() == "/unused" {
             let text = self.unused(rt, alloc)?;
-            return request.respond(Response::from_string(alloc, text)?, current_date(rt));
+            return request.reply(Response::from_string(alloc, text)?);
         }
-        request.respond(Response::status(alloc, StatusCode(501))?, current_date(rt))
+        request.reply_status(StatusCode(501))
     }
 }
 
@@ -186,9 +175,7 @@ fn serve<Rt: Host, O: Write>(
     recorded: &Recorded,
     out: &mut O,
 ) -> io::Result<()> {
-    let addr = ConfigListenAddr::from_socket_addrs(&rt, alloc, address)?;
-    let config = ServerConfig { addr, ssl: None };
-    let server = Server::with(rt, alloc, config, Profile::Standard, Limits::new())?;
+    let server = Server::bind(rt, alloc, address, ServerOptions::open_port())?;
     writeln!(out, "listening on {}", server.server_addr())?;
     out.flush()?;
     server.serve_by(alloc, THREADS, recorded)

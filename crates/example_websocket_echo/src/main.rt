@@ -11,9 +11,7 @@ use std::sync::{Arc, Wait};
 use std::time::Clock;
 use std::{env, io};
 use tiny_http::device::{ReadDevice, WriteDevice};
-use tiny_http::{
-    ConfigListenAddr, Handler, Host, Limits, Profile, Request, Server, ServerConfig, current_date,
-};
+use tiny_http::{Handler, Host, Request, Server, ServerOptions, current_date};
 use tiny_http_websocket::handshake::{Handshake, accept, refusal};
 use tungstenite::{
     CloseCode, CloseFrame, Error, NoMask, Role, Utf8Bytes, WebSocket, WebSocketConfig,
@@ -93,9 +91,7 @@ fn serve<Rt: Host, O: Write>(rt: Rt, alloc: Global, address: &str, out: &mut O) 
     let Ok(handler) = Arc::new(alloc, Echo) else {
         return Err(ErrorKind::OutOfMemory.into());
     };
-    let addr = ConfigListenAddr::from_socket_addrs(&rt, alloc, address)?;
-    let config = ServerConfig { addr, ssl: None };
-    let server = Server::with(rt, alloc, config, Profile::Standard, Limits::new())?;
+    let server = Server::bind(rt, alloc, address, ServerOptions::open_port())?;
     writeln!(out, "listening on {}", server.server_addr())?;
     out.flush()?;
     server.serve(alloc, &handler)

@@ -10,9 +10,9 @@ use std::path::{Path, PathBuf};
 use test_scene_files::deed::{Found, ServerDeed};
 use test_scene_files::mishap::{Mishap, demand, demand_fault, demand_text, differs};
 use test_scene_props::props::shared;
+use tiny_http::ServerOptions;
 use tiny_http::connection::{ConfigListenAddr, ListenAddr};
 use tiny_http::server::{Server, ServerConfig, ServerError, SslConfig};
-use tiny_http::{Limits, Profile};
 
 // Creates a second server at `addr`, the address of the scene's server.
 fn second_server<R: Host>(
@@ -104,10 +104,7 @@ fn made_at_link<R: Host>(
 // Creates a server with limits at this path, and drops it at once. Returns the error's kind, if the server can't be
 // created.
 fn refusal_at<R: Host>(rt: &R, alloc: Global, path: &str) -> Result<Option<ErrorKind>, Mishap> {
-    let Ok(config) = config_of(rt, alloc, Place::Path(path)) else {
-        return Err(Mishap::OutOfMemory);
-    };
-    match Server::with(*rt, alloc, config, Profile::Standard, Limits::new()) {
+    match Server::bind_unix(*rt, alloc, Path::new(path), ServerOptions::open_port()) {
         Ok(_) => Ok(None),
         Err(ServerError::Io(fault)) => Ok(Some(fault.kind())),
         Err(_) => Err(Mishap::OutOfMemory),

@@ -23,7 +23,7 @@ use tiny_http::connection::{ConfigListenAddr, ListenAddr, Listener};
 use tiny_http::counts::Counts;
 use tiny_http::messages_queue::MessagesQueue;
 use tiny_http::server::{Server, ServerConfig, ServerError, ServerRequest, Stopped};
-use tiny_http::{Limits, Profile};
+use tiny_http::{Profile, ServerOptions};
 
 // Time in seconds within which an expected request must arrive.
 const LONGEST: u64 = 10;
@@ -85,7 +85,8 @@ fn listening_server<R: Host>(
         }
         None => Server::from_listener_with(*rt, alloc, listener, None, ground.profile),
         Some(limits) => {
-            Server::from_listener_within(*rt, alloc, listener, None, ground.profile, limits)
+            let options = ServerOptions::open_port().with_profile(ground.profile);
+            Server::over_listener(*rt, alloc, listener, options.with_limits(limits))
         }
     }
 }
@@ -100,13 +101,19 @@ fn server_of<R: Host>(
     if matches!(ground.over, Over::Listener | Over::Nonblocking) {
         return listening_server(rt, alloc, ground);
     }
-    if let (Place::Tcp(addr), None) = (place, ground.limits) {
-        return Server::http_with(*rt, alloc, addr, ground.profile);
-    }
-    let config = config_of(rt, alloc, place)?;
-    match ground.limits {
-        None => Server::new_with(*rt, alloc, config, ground.profile),
-        Some(limits) => Server::with(*rt, alloc, config, ground.profile, limits),
+    let options = ServerOptions::open_port().with_profile(ground.profile);
+    match (place, ground.limits) {
+        (Place::Tcp(addr), None) => Server::http_with(*rt, alloc, addr, ground.profile),
+        (Place::Tcp(addr), Some(limits)) => {
+            Server::bind(*rt, alloc, addr, options.with_limits(limits))
+        }
+        (Place::Path(path), Some(limits)) => {
+            Server::bind_unix(*rt, alloc, Path::new(path), options.with_limits(limits))
+        }
+        (Place::Path(_), None) => {
+            let config = config_of(rt, alloc, place)?;
+            Server::new_with(*rt, alloc, config, ground.profile)
+        }
     }
 }
 

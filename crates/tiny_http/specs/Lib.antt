@@ -1,7 +1,6 @@
 pub mod Message
 pub mod ServerError
 pub mod ServerConfig
-pub mod Clock
 pub use Rattle.tiny_http_socket.specs.Connection
 pub use Rattle.tiny_http_socket.specs.Stream
 pub use Rattle.tiny_http_threads.specs.Queue

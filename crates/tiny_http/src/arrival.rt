@@ -4,7 +4,7 @@ use crate::crew::Progress;
 use crate::ending::Ending;
 use crate::registry::{ConnectionGuard, time_of};
 use crate::server::{ServerReader, ServerRequest, ServerWriter, current_date};
-use crate::serving::Handler;
+use crate::serving::{Handler, handle_by};
 use std::alloc::Global;
 use std::mem;
 use std::os::fd::{AsRawFd, RawFd};
@@ -70,7 +70,7 @@ impl<R: Wait + Clock + Copy> Client<R> {
             }
         }
         self.cork.send_unless_leaving();
-        let _ = handler.handle(&rt, alloc, request);
+        handle_by(handler, &rt, alloc, request);
         true
     }
 

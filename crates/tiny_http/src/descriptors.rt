@@ -1,4 +1,6 @@
 //! Whether the process may open as many descriptors as a server's limit on connections needs.
+ghost use Rattle.std.specs.Prelude.{◌≢◌, ◌<◌, ◌+◌, ◌-◌, ◌^◌, IfSome};
+
 use libc::types::rlimit;
 use libc::{RLIMIT_NOFILE, getrlimit};
 
@@ -13,7 +15,10 @@ const OTHERS: u64 = 10;
 /// Returns the maximum number of descriptors of the process (`ulimit -n`), if it is too small for this number of
 /// connections. Returns `None` for at most 1,000 connections, for `usize::MAX`, which means no limit, and if the system
 /// doesn't tell the maximum.
-pub(crate) fn too_few_descriptors(connections: usize) -> Option<u64> {
+pub(crate) fn too_few_descriptors(connections: usize) -> Option<u64>
+    ensures { IfSome result
+        (λ most. (1000 < connections) × (connections ≢ 2 ^ 64 - 1) × (most < connections + 10)) }
+{
     if connections <= ORDINARY || connections == usize::MAX {
         return None;
     }

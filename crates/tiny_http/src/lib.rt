@@ -45,16 +45,22 @@ mod descriptors;
 mod ending;
 mod faults;
 pub mod laws;
+pub mod options;
 mod registry;
 pub mod server;
 pub mod serving;
+pub mod stopping;
+pub mod testing;
 
+pub use crate::options::ServerOptions;
 pub use crate::server::{
     Host, IncomingRequests, Server, ServerBody, ServerConfig, ServerError, ServerOutput,
     ServerReader, ServerRequest, ServerRuntime, ServerStream, ServerWriter, SslConfig, Stopped,
     current_date,
 };
 pub use crate::serving::Handler;
+pub use crate::stopping::StopHandle;
+pub use crate::testing::answer_of;
 pub use tiny_http_core::framing::Profile;
 pub use tiny_http_core::{
     answer, custom_stream, driver, equal_reader, exchange, framing, fused_reader, outlet, source,
@@ -62,6 +68,7 @@ pub use tiny_http_core::{
 };
 pub use tiny_http_limits::limits::Limits;
 pub use tiny_http_limits::{counts, headcount, limits};
+pub use tiny_http_request::any_request::AnyRequest;
 pub use tiny_http_request::request::{
     BodyError, ReadWrite, RefusedUpgrade, Request, StreamedBody, StreamedForm,
 };

@@ -1,14 +1,14 @@
 //! The server: it listens, accepts clients, and hands out their requests to any thread.
-ghost use Rattle.std.specs.Prelude.{◌≡◌, Err, IsSome, IsErr};
-ghost use Rattle.httpdate.specs.Date.{unix_secs};
-ghost use Rattle.tiny_http.specs.Clock.{seconds_of};
+ghost use Rattle.std.specs.Prelude.{◌≡◌, None, Err, IsSome, IsErr, IfErr};
+ghost use Rattle.tiny_http.specs.ServerError.{FailsUnder};
 
 use crate::accepting::{Accepting, Message, Queuing};
 use crate::crew::Crew;
 use crate::descriptors::too_few_descriptors;
 use crate::ending::Ending;
+use crate::options::ServerOptions;
 use crate::registry::{ConnectionRegistry, time_of};
-use httpdate::HttpDate;
+use crate::stopping::StopHandle;
 use std::alloc::{AllocError, Global};
 use std::io::ErrorKind;
 use std::net::{Net, TcpListener, TcpStream, ToSocketAddrs};
@@ -25,6 +25,7 @@ use tiny_http_core::framing::Profile;
 use tiny_http_core::outlet::Outlet;
 use tiny_http_limits::counts::Counts;
 use tiny_http_limits::limits::Limits;
+pub use tiny_http_request::date::current_date;
 use tiny_http_request::request::{Body, Request};
 use tiny_http_socket::connection::{ConfigListenAddr, ListenAddr, Listener, SocketFiles};
 use tiny_http_socket::cork::{CorkedWriter, FlushingReader};
@@ -36,9 +37,6 @@ use tiny_http_threads::sequential::SequentialWriter;
 
 // Initial capacity of the queue, in messages.
 const QUEUE_ROOM: usize = 8;
-
-// Timeout of a closing server's connection to itself, in seconds.
-const SELF_CONNECT_SECS: u64 = 1;
 
 /// The runtime of a server. It provides sockets, the files of Unix sockets, a clock, waiting and threads, and can be
 /// copied and sent to threads. Any such runtime implements this trait. A server that threads share needs a runtime that
@@ -215,17 +213,87 @@ impl SslConfig {
 pub struct Server<R: Net + SocketFiles + Wait + Clock + Drop> {
     pub(crate) rt: R,
     pub(crate) queuing: Arc<Queuing<R>>,
-    pub(crate) registry: Arc<ConnectionRegistry>,
     // Maximum number of workers of a call to `serve`, and of those that read requests for the queue.
     pub(crate) most_workers: usize,
-    listening_addr: ListenAddr,
+    stop_handle: StopHandle<R>,
 }
 
 impl<R: ServerRuntime> Server<R> {
-    /// Makes a server at the first of these addresses that can be bound. Fails as `new` does, and also if a host name
-    /// isn't found or the text isn't an address.
+    /// Makes a server at the first of these addresses that can be bound, such as `"0.0.0.0:8000"`.
+    ///
+    /// Fails with `Io` if the text isn't an address, a host name isn't found, none of the addresses can be listened on,
+    /// or a thread or a descriptor for the server can't be created, and with `Memory` if memory can't be allocated.
+    /// Fails with `TooFewDescriptors` if the limits allow more than 1,000 connections, but not `usize::MAX`, and the
+    /// process isn't allowed to open that many descriptors plus ten.
+    pub fn bind<A: ToSocketAddrs>(
+        rt: R,
+        alloc: Global,
+        addr: A,
+        options: ServerOptions,
+    ) -> Result<Server<R>, ServerError>
+        ensures fails { IfErr result (FailsUnder options) }
+    {
+        let addr = ConfigListenAddr::from_socket_addrs(&rt, alloc, addr)?;
+        Server::bound(rt, alloc, addr, None, options)
+    }
+
+    /// Makes a server on a Unix socket, whose file it creates at this path. Fails as `bind` does, and then removes the
+    /// file if it created it.
+    pub fn bind_unix(
+        rt: R,
+        alloc: Global,
+        path: Path<'_>,
+        options: ServerOptions,
+    ) -> Result<Server<R>, ServerError>
+        ensures fails { IfErr result (FailsUnder options) }
+    {
+        if options.removes_stale_file {
+            remove_stale(&rt, path);
+        }
+        let path = PathBuf::from_str(alloc, path.path_text()).map_err(|_| ServerError::Memory)?;
+        Server::bound(
+            rt,
+            alloc,
+            ConfigListenAddr::unix_from_path(path),
+            None,
+            options,
+        )
+    }
+
+    /// Makes a server over this listening socket, which has to be blocking: on a nonblocking socket, accepting ends
+    /// with `WouldBlock`. The file of a Unix socket is removed when the server is stopped or dropped, but not if this
+    /// call fails.
+    ///
+    /// Fails with `Io` if the socket has no address or a thread or a descriptor for the server can't be created, with
+    /// `Memory` if memory can't be allocated, and with `TooFewDescriptors` as `bind` does.
+    pub fn over_listener(
+        rt: R,
+        alloc: Global,
+        listener: Listener,
+        options: ServerOptions,
+    ) -> Result<Server<R>, ServerError>
+        ensures fails { IfErr result (FailsUnder options) }
+    {
+        if let Some(limits) = &options.limits
+            && let Some(descriptors) = too_few_descriptors(limits.connections)
+        {
+            return Err(ServerError::TooFewDescriptors {
+                connections: limits.connections,
+                descriptors,
+            });
+        }
+        let ServerOptions {
+            profile,
+            limits,
+            ..
+        } = options;
+        Ok(Server::over(rt, alloc, profile, limits, listener)?)
+    }
+
+    /// Makes a server at the first of these addresses that can be bound. Heads are read under `Lenient`, and there are
+    /// no limits. Fails as `bind` does.
     pub fn http<A: ToSocketAddrs>(rt: R, alloc: Global, addr: A) -> Result<Server<R>, ServerError> {
-        Server::http_with(rt, alloc, addr, Profile::Lenient)
+        Server::bind(rt, alloc, addr, ServerOptions::plain())
     }
 
     /// Makes a server as `http` does, but reads all request heads under this profile.
@@ -235,20 +303,22 @@ impl<R: ServerRuntime> Server<R> {
         addr: A,
         profile: Profile,
     ) -> Result<Server<R>, ServerError> {
-        let addr = ConfigListenAddr::from_socket_addrs(&rt, alloc, addr)?;
-        Server::new_with(rt, alloc, ServerConfig { addr, ssl: None }, profile)
+        Server::bind(
+            rt,
+            alloc,
+            addr,
+            ServerOptions::plain().with_profile(profile),
+        )
     }
 
     /// Makes a server on a Unix socket, whose file it creates at this path. Fails as `new` does.
     pub fn http_unix(rt: R, alloc: Global, path: Path<'_>) -> Result<Server<R>, ServerError> {
-        let path = PathBuf::from_str(alloc, path.path_text()).map_err(|_| ServerError::Memory)?;
-        let addr = ConfigListenAddr::unix_from_path(path);
-        Server::new(rt, alloc, ServerConfig { addr, ssl: None })
+        Server::bind_unix(rt, alloc, path, ServerOptions::plain())
     }
 
-    /// Makes a server with these settings. Heads are read under `Lenient`. Fails with `Io` if it can't listen on the
-    /// address, and otherwise as `from_listener` does. If it fails after creating the file of a Unix socket, it removes
-    /// that file.
+    /// Makes a server with these settings. Heads are read under `Lenient`, and there are no limits. Fails with `Io` if
+    /// it can't listen on the address, and otherwise as `from_listener` does. If it fails after creating the file of a
+    /// Unix socket, it removes that file.
     pub fn new(rt: R, alloc: Global, config: ServerConfig) -> Result<Server<R>, ServerError>
         ensures ssl { IsSome config.ssl → IsErr result }
         ensures refused { result ≡ Err ServerError.Ssl → IsSome config.ssl }
@@ -266,46 +336,24 @@ impl<R: ServerRuntime> Server<R> {
         ensures ssl { IsSome config.ssl → IsErr result }
         ensures refused { result ≡ Err ServerError.Ssl → IsSome config.ssl }
     {
-        Server::bound(rt, alloc, config, profile, None)
+        let options = ServerOptions::plain().with_profile(profile);
+        Server::bound(rt, alloc, config.addr, config.ssl, options)
     }
 
-    /// Makes a server as `new_with` does, but with these limits on its clients, which a server for untrusted clients
-    /// needs. After a temporary accept error, such as a lack of descriptors or a connection that its client has reset,
-    /// the server waits and tries again. If the address is the path of a Unix socket on which no process listens, the
-    /// socket's file is removed first.
-    ///
-    /// Fails with `TooFewDescriptors` if the limits allow more than 1,000 connections, but not `usize::MAX`, and the
-    /// process isn't allowed to open that many descriptors plus ten.
-    pub fn with(
-        rt: R,
-        alloc: Global,
-        config: ServerConfig,
-        profile: Profile,
-        limits: Limits,
-    ) -> Result<Server<R>, ServerError>
-        ensures ssl { IsSome config.ssl → IsErr result }
-        ensures refused { result ≡ Err ServerError.Ssl → IsSome config.ssl }
-    {
-        if let ConfigListenAddr::Unix(path) = &config.addr {
-            remove_stale(&rt, path.as_path());
-        }
-        Server::bound(rt, alloc, config, profile, Some(limits))
-    }
-
-    // Makes a server with these settings, and with limits if there are any.
+    // Makes a server at this address, unless there are TLS settings.
     fn bound(
         rt: R,
         alloc: Global,
-        config: ServerConfig,
-        profile: Profile,
-        limits: Option<Limits>,
+        addr: ConfigListenAddr,
+        ssl: Option<SslConfig>,
+        options: ServerOptions,
     ) -> Result<Server<R>, ServerError>
-        ensures ssl { IsSome config.ssl → IsErr result }
-        ensures refused { result ≡ Err ServerError.Ssl → IsSome config.ssl }
+        ensures ssl { IsSome ssl → IsErr result }
+        ensures refused { result ≡ Err ServerError.Ssl → IsSome ssl }
+        ensures fails { ssl ≡ None → IfErr result (FailsUnder options) }
     {
-        let ServerConfig { addr, ssl } = config;
         let listener = addr.bind(&rt)?;
-        let made = Server::over_unless_ssl(rt, alloc, listener, ssl, profile, limits);
+        let made = Server::over_unless_ssl(rt, alloc, listener, ssl, options);
         if made.is_err()
             && let ConfigListenAddr::Unix(path) = &addr
         {
@@ -314,13 +362,8 @@ impl<R: ServerRuntime> Server<R> {
         made
     }
 
-    /// Makes a server over this listening socket, which has to be blocking: on a nonblocking socket, accepting ends
-    /// with `WouldBlock`. Heads are read under `Lenient`. The file of a Unix socket is removed when the server is
-    /// stopped or dropped.
-    ///
-    /// Fails with `Ssl` if there are TLS settings, with `Io` if the socket has no address or a thread or a descriptor
-    /// for the server can't be created, and with `Memory` if memory can't be allocated. If it fails, the file of a Unix
-    /// socket isn't removed.
+    /// Makes a server over this listening socket as `over_listener` does, without limits. Heads are read under
+    /// `Lenient`. Fails with `Ssl` if there are TLS settings, and otherwise as `over_listener` does.
     pub fn from_listener(
         rt: R,
         alloc: Global,
@@ -344,51 +387,26 @@ impl<R: ServerRuntime> Server<R> {
         ensures ssl { IsSome ssl → result ≡ Err ServerError.Ssl }
         ensures refused { result ≡ Err ServerError.Ssl → IsSome ssl }
     {
-        Server::over_unless_ssl(rt, alloc, listener, ssl, profile, None)
+        let options = ServerOptions::plain().with_profile(profile);
+        Server::over_unless_ssl(rt, alloc, listener, ssl, options)
     }
 
-    /// Makes a server over this listening socket as `from_listener_with` does, but with these limits on its clients.
-    /// The server handles temporary accept errors as one made by `with` does. Also fails with `TooFewDescriptors`, as
-    /// `with` does.
-    pub fn from_listener_within(
-        rt: R,
-        alloc: Global,
-        listener: Listener,
-        ssl: Option<SslConfig>,
-        profile: Profile,
-        limits: Limits,
-    ) -> Result<Server<R>, ServerError>
-        ensures ssl { IsSome ssl → result ≡ Err ServerError.Ssl }
-        ensures refused { result ≡ Err ServerError.Ssl → IsSome ssl }
-    {
-        Server::over_unless_ssl(rt, alloc, listener, ssl, profile, Some(limits))
-    }
-
-    // Makes a server over this listening socket, with limits if there are any. Fails with `Ssl` if there are TLS
-    // settings, and otherwise as `from_listener_within` does.
+    // Makes a server over this listening socket, unless there are TLS settings.
     fn over_unless_ssl(
         rt: R,
         alloc: Global,
         listener: Listener,
         ssl: Option<SslConfig>,
-        profile: Profile,
-        limits: Option<Limits>,
+        options: ServerOptions,
     ) -> Result<Server<R>, ServerError>
         ensures ssl { IsSome ssl → result ≡ Err ServerError.Ssl }
         ensures refused { result ≡ Err ServerError.Ssl → IsSome ssl }
+        ensures fails { ssl ≡ None → IfErr result (FailsUnder options) }
     {
         if ssl.is_some() {
             return Err(ServerError::Ssl);
         }
-        if let Some(limits) = &limits
-            && let Some(descriptors) = too_few_descriptors(limits.connections)
-        {
-            return Err(ServerError::TooFewDescriptors {
-                connections: limits.connections,
-                descriptors,
-            });
-        }
-        Ok(Server::over(rt, alloc, profile, limits, listener)?)
+        Server::over_listener(rt, alloc, listener, options)
     }
 
     // Makes a server over this listening socket.
@@ -423,12 +441,17 @@ impl<R: ServerRuntime> Server<R> {
             crew.close(&rt);
             return Err(ErrorKind::WouldBlock.into());
         }
+        let stop_handle = StopHandle {
+            rt,
+            queuing: Arc::try_clone(&queuing)?,
+            registry,
+            listening_addr,
+        };
         Ok(Server {
             rt,
             queuing,
-            registry,
             most_workers,
-            listening_addr,
+            stop_handle,
         })
     }
 }
@@ -441,7 +464,7 @@ impl<R: Net + SocketFiles + Wait + Clock + Drop> Server<R> {
 
     /// Returns the address on which the server listens.
     pub fn server_addr(&self) -> ListenAddr {
-        match self.listening_addr.clone() {
+        match self.stop_handle.listening_addr.clone() {
             Ok(addr) => addr,
             Err(_) => unreachable!(),
         }
@@ -450,18 +473,18 @@ impl<R: Net + SocketFiles + Wait + Clock + Drop> Server<R> {
     /// Returns the number of accepted clients that are connected. A client counts until all its requests are answered
     /// and its connection is closed.
     pub fn num_connections(&self) -> usize {
-        self.registry.count(&self.rt)
+        self.stop_handle.registry.count(&self.rt)
     }
 
     /// Returns the server's counts since it started.
     pub fn counts(&self) -> Counts {
-        self.registry.counts(&self.rt)
+        self.stop_handle.registry.counts(&self.rt)
     }
 
     /// Returns the number of failed attempts to accept a client after which the server continued. It continues only
     /// under limits.
     pub fn accept_faults(&self) -> u64 {
-        self.registry.accept_faults(&self.rt)
+        self.stop_handle.registry.accept_faults(&self.rt)
     }
 
     /// Waits for a request. Fails with the error that ended accepting, which only one call reports, or with kind
@@ -510,6 +533,15 @@ impl<R: Net + SocketFiles + Wait + Clock + Drop> Server<R> {
         Message::received(&self.queuing.messages, &self.rt, popped)
     }
 
+    /// Returns a handle by which any thread can stop the server. Fails if no further handle can be made, or memory can't
+    /// be allocated.
+    pub fn stop_handle(&self) -> Result<StopHandle<R>, AllocError>
+    where
+        R: Copy,
+    {
+        self.stop_handle.try_clone()
+    }
+
     /// Makes one call that waits for requests, such as `recv` or `serve`, return without one: a call that waits now, or
     /// a later one. Fails if memory can't be allocated.
     pub fn unblock(&self) -> Result<(), AllocError> {
@@ -529,20 +561,17 @@ impl<R: Net<Listener = TcpListener, Stream = TcpStream> + SocketFiles + Wait + C
     /// The call waits, for at most `time`, until every request that was handed out is answered and every connection is
     /// closed; then `serve` and each call that waits for a request return. A later call to `stop` waits again, for the
     /// connections that are left. If a handler makes this call, the call waits for that handler's own request, too, and
-    /// so takes the whole time. The call takes longer than `time` if a client doesn't read a 500 that the call sends.
+    /// so takes the whole time: a handler calls `StopHandle::stop`. The call takes longer than `time` if a client doesn't read a 500 that the call sends.
     pub fn stop(&self, time: Duration) -> Stopped {
         let begun = time_of(&self.rt);
-        self.queuing.ending.begin_stop();
-        self.end_accepting();
-        self.registry.stop(&self.rt);
-        self.queuing.drop_waiting(&self.rt);
-        let is_empty = self.registry.wait_until_empty(&self.rt, begun, time);
+        let handle = &self.stop_handle;
+        handle.begin_stop();
+        let is_empty = handle.registry.wait_until_empty(&self.rt, begun, time);
         if !self.queuing.ending.has_accepted_all() {
             // The earlier attempt, in `end_accepting`, may have failed for lack of a descriptor.
-            self.connect_to_itself();
+            handle.connect();
         }
-        self.queuing.ending.stop();
-        let _ = self.queuing.messages.unblock(&self.rt);
+        handle.end_stop();
         if is_empty {
             return Stopped::Answered;
         }
@@ -569,34 +598,6 @@ impl<R: Net + SocketFiles + Wait + Clock + Drop> Server<R> {
 }
 
 impl<R: Net + SocketFiles + Wait + Clock + Drop> Server<R> {
-    // Ends accepting, and removes the file of a Unix socket. To wake the accepting thread, the server connects to
-    // itself once. A second call does nothing.
-    fn end_accepting(&self) {
-        if !self.queuing.ending.close() {
-            return;
-        }
-        let rt = &self.rt;
-        self.registry.wake(rt);
-        self.connect_to_itself();
-        if let ListenAddr::Unix(addr) = &self.listening_addr
-            && let Some(path) = addr.as_pathname()
-        {
-            let _ = rt.remove_socket(path);
-        }
-    }
-
-    // Connects to the server's own address, so that the accepting thread wakes.
-    fn connect_to_itself(&self) {
-        let rt = &self.rt;
-        match &self.listening_addr {
-            ListenAddr::IP(addr) => {
-                let most = Duration::from_secs(SELF_CONNECT_SECS);
-                drop(TcpStream::connect_timeout(rt, addr, most));
-            }
-            ListenAddr::Unix(addr) => drop(UnixStream::connect_addr(rt, addr)),
-        }
-    }
-
     // Returns whether a call to `stop` has finished its wait: everything was answered, or the time had run out.
     pub(crate) fn has_stopped(&self) -> bool {
         self.queuing.ending.has_stopped()
@@ -607,14 +608,13 @@ impl<R: Net + SocketFiles + Wait + Clock + Drop> Drop for Server<R> {
     /// Ends accepting (to wake the accepting thread, the server connects to itself once), removes the file of a Unix
     /// socket, and drops the requests and the clients in the queue.
     fn drop(self) {
-        self.end_accepting();
+        self.stop_handle.end_accepting();
         self.queuing.drop_waiting(&self.rt);
         let Server {
             rt: _,
             queuing: _,
-            registry: _,
             most_workers: _,
-            listening_addr: _,
+            stop_handle: _,
         } = self;
     }
 }
@@ -646,32 +646,5 @@ impl<R: Net + SocketFiles + Wait + Clock + Drop> IncomingRequests<'_, R> {
     /// stopped. In the first two cases a later call waits again.
     pub fn next(&mut self) -> Option<ServerRequest<R>> {
         self.server.recv().ok()
-    }
-}
-
-/// Returns the date of the system clock, in whole seconds. Returns second 0 of 1970 if the clock can't be read, or is
-/// before 1970 or after the year 9999.
-pub fn current_date<R: Clock>(rt: &R) -> HttpDate {
-    date_of(rt.since_1970().ok())
-}
-
-// Returns the date of this time since 1970, or second 0 of 1970 if there is no time or it is after the year 9999.
-fn date_of(time: Option<Duration>) -> HttpDate
-    ensures { unix_secs result ≡ seconds_of time }
-{
-    let seconds = time.map_or(0, |time| time.as_secs());
-    match HttpDate::from_unix_secs(seconds) {
-        Ok(date) => date,
-        Err(_) => epoch(),
-    }
-}
-
-// Returns the date of second 0 of 1970.
-fn epoch() -> HttpDate
-    ensures { unix_secs result ≡ 0 }
-{
-    match HttpDate::from_unix_secs(0) {
-        Ok(date) => date,
-        Err(_) => unreachable!(),
     }
 }

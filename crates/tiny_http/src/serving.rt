@@ -17,7 +17,7 @@ use std::{io, thread};
 /// implementation of a trait that names `ServerRequest` directly.)
 pub trait Handler<R, Q> {
     /// Responds to a request. If the request is dropped without a response, for example because this call fails, it
-    /// gets an empty 500. The server ignores the error.
+    /// gets an empty 500. The error goes to `on_error`.
     ///
     /// Under `serve_by` the call may wait for the request's turn, as a program that calls `recv` and `respond` does.
     /// The rest of this comment is about `serve`.
@@ -33,6 +33,17 @@ pub trait Handler<R, Q> {
     /// if the handler waits for something else from this client, it should hand the request to another thread and
     /// return, or take a raw writer and flush it.
     fn handle(&self, rt: &R, alloc: Global, request: Q) -> io::Result<()>;
+
+    /// Is called with the error of each `handle` that fails, on the same worker. Drops the error, unless the handler
+    /// does otherwise, such as printing it.
+    fn on_error(&self, _rt: &R, _alloc: Global, _error: io::Error) {}
+}
+
+/// Calls the handler with this request, and then, if that fails, `on_error`.
+pub(crate) fn handle_by<R, Q, H: Handler<R, Q>>(handler: &H, rt: &R, alloc: Global, request: Q) {
+    if let Err(error) = handler.handle(rt, alloc, request) {
+        handler.on_error(rt, alloc, error);
+    }
 }
 
 // The task of a worker.
@@ -62,7 +73,7 @@ impl<H: Handler<R, ServerRequest<R>> + Drop, R: Wait + Clock + Copy> Task for Se
                 if let Some(request) = request.take()
                     && !request.is_lost()
                 {
-                    let _ = handler.handle(rt, self.alloc, request);
+                    handle_by(handler, rt, self.alloc, request);
                 }
                 Progress::Over
             }
@@ -156,12 +167,12 @@ impl<R: Host> Server<R> {
     /// if `serve` was called earlier and a client waits for the next call to `serve`.
     ///
     /// This is the loop over `recv` that a program would write. Each response is sent when the handler makes it, and a
-    /// request may be kept and answered later. Errors from the handler are ignored. With 0 threads the call returns at
+    /// request may be kept and answered later. With 0 threads the call returns at
     /// once, and nothing is answered.
     ///
     /// A thread waits for the turn of its response, for a client that accepts no more bytes, and for bytes of a body.
     /// So one client that sends as many requests as there are threads, and reads slowly, blocks them all: under limits
-    /// (`Server::with`) for as long as `write_time` and `least_rate` allow for the response, and without limits
+    /// (`ServerOptions`) for as long as `write_time` and `least_rate` allow for the response, and without limits
     /// possibly forever. With `serve` a client blocks only its own worker, and a request takes fewer instructions. So
     /// this call is for short responses to trusted clients.
     pub fn serve_by<H: Handler<R, ServerRequest<R>> + Sync>(
@@ -205,7 +216,7 @@ impl<R: Host> Server<R> {
     ) -> io::Result<()> {
         for _ in self.rt.forever() {
             match self.recv() {
-                Ok(request) => drop(handler.handle(&self.rt, alloc, request)),
+                Ok(request) => handle_by(handler, &self.rt, alloc, request),
                 Err(fault) if fault.kind() == ErrorKind::Other => break,
                 Err(fault) => return Err(fault),
             }

@@ -4,3 +4,4 @@ pub mod WholeBody
 pub mod Client
 pub mod Test
 pub mod StreamedBody
+pub mod Clock

@@ -54,6 +54,7 @@ pub(crate) struct Links {
 /// read.
 #[derive(Drop)]
 pub struct ClientConnection<R: ReadDevice + Drop, W: WriteDevice + Drop, Rt: Wait + Drop> {
+    rt: Rt,
     alloc: Global,
     profile: Profile,
     client: Client,
@@ -184,6 +185,7 @@ impl<R: ReadDevice + Drop, W: WriteDevice + Drop, Rt: Wait + Copy> ClientConnect
         let sink = SequentialWriterBuilder::new(rt, alloc, Outlet::new(writer))?;
         let next_head = Some(NextHead::Here(first));
         Ok(ClientConnection {
+            rt,
             alloc,
             profile,
             client: Client {
@@ -371,6 +373,7 @@ impl<R: ReadDevice + Drop, W: WriteDevice + Drop, Rt: Wait + Copy> ClientConnect
         };
         self.next_head = next_head(&mut self.source, head.is_last(), held)?;
         Ok(Request::from_parts(
+            self.rt,
             self.alloc,
             self.client,
             head,

@@ -4,8 +4,11 @@
 #![tactic(auto)]
 
 mod answering;
+pub mod any_request;
 mod body;
 pub mod client;
+pub mod date;
+mod refused_upgrade;
 mod remembered;
 pub mod request;
 mod streamed_body;

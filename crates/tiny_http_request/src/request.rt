@@ -33,12 +33,13 @@ use crate::answering::{begin_answer, read_stream};
 pub use crate::body::Body;
 use crate::body::GivesOn;
 use crate::client::{Client, Links};
+pub use crate::refused_upgrade::{ReadWrite, RefusedUpgrade};
 pub use crate::streamed_body::StreamedBody;
 pub use crate::whole_body::BodyError;
 use crate::whole_body::read_left;
 use httpdate::HttpDate;
 use std::alloc::{AllocError, Global};
-use std::io::{ErrorKind, Read, Write};
+use std::io::ErrorKind;
 use std::net::SocketAddr;
 use std::sync::{Arc, Wait};
 use std::{fmt, io};
@@ -101,24 +102,11 @@ impl From<AllocError> for RequestCreationError {
     }
 }
 
-/// A stream to read from and to write to.
-pub trait ReadWrite: Read + Write {}
-
-impl<R: ReadDevice, W: WriteDevice> ReadWrite for CustomStream<R, W> {}
-
-/// A refused upgrade: the reason, and the request, unchanged.
-#[derive(Drop)]
-pub struct RefusedUpgrade<R: ReadDevice + Drop, W: WriteDevice + Drop, Rt: Wait + Drop> {
-    /// The reason for the refusal.
-    pub error: UpgradeError,
-    /// The request, which can still be answered.
-    pub request: Request<R, W, Rt>,
-}
-
 /// A client's request, with its body and its turn to be answered. Any thread may hold it, read its body and respond to
 /// it while the connection reads on. Responses are sent in the order of the requests. A request that is dropped gets an
 /// empty 500, in its turn.
 pub struct Request<R: ReadDevice + Drop, W: WriteDevice + Drop, Rt: Wait + Drop> {
+    rt: Rt,
     alloc: Global,
     client: Client,
     head: Head,
@@ -129,7 +117,9 @@ pub struct Request<R: ReadDevice + Drop, W: WriteDevice + Drop, Rt: Wait + Drop>
 
 impl<R: ReadDevice + Drop, W: WriteDevice + Drop, Rt: Wait + Drop> Request<R, W, Rt> {
     /// Makes a request from these parts.
+    #[allow(clippy::too_many_arguments)]
     pub(crate) fn from_parts(
+        rt: Rt,
         alloc: Global,
         client: Client,
         head: Head,
@@ -157,6 +147,7 @@ impl<R: ReadDevice + Drop, W: WriteDevice + Drop, Rt: Wait + Drop> Request<R, W,
         };
         let open_request = open_request.map_body(|body| Body::new(body, reader, gives_on));
         Request {
+            rt,
             alloc,
             client,
             head,
@@ -171,6 +162,7 @@ impl<R: ReadDevice + Drop, W: WriteDevice + Drop, Rt: Wait + Drop> Request<R, W,
         ensures { result.0 ≡ self.open_request }
     {
         let Self {
+            rt: _,
             alloc: _,
             client: _,
             head: _,
@@ -179,6 +171,16 @@ impl<R: ReadDevice + Drop, W: WriteDevice + Drop, Rt: Wait + Drop> Request<R, W,
             writer,
         } = self;
         (open_request, writer)
+    }
+
+    /// Returns the runtime by which the request waits.
+    pub fn runtime(&self) -> &Rt {
+        &self.rt
+    }
+
+    /// Returns the allocator of the request.
+    pub fn alloc(&self) -> Global {
+        self.alloc
     }
 
     /// Returns whether the connection is encrypted.
@@ -757,5 +759,5 @@ pub fn new_request<R: ReadDevice + Drop, W: WriteDevice + Drop, Rt: Wait + Copy>
         flush_policy: None,
         shared: None,
     };
-    Ok(Request::from_parts(alloc, client, head, open_request, reader, writer, links))
+    Ok(Request::from_parts(rt, alloc, client, head, open_request, reader, writer, links))
 }

@@ -3,6 +3,7 @@ ghost use Rattle.std.specs.Prelude.{◌≡◌, ◌++◌, ◌∷◌, [], length, 
 ghost use Rattle.std.specs.Str.{IsAscii};
 ghost use Rattle.std.specs.Net.Socket.{socket_port};
 ghost use Rattle.tiny_http_head.specs.Heads.{version};
+ghost use Rattle.tiny_http_head.specs.HeaderTexts.{AreHeaderTexts, header_of};
 ghost use Rattle.tiny_http_io.specs.Device.{whole_feed};
 ghost use Rattle.tiny_http_open_request.specs.HeadReads.{head_framing};
 ghost use Rattle.tiny_http_request.specs.Request.{request_head, request_open, BeginsWith, Says, IsFramed, FailsBy};
@@ -194,6 +195,13 @@ impl TestRequest {
         })
     }
 
+    /// Returns the method.
+    pub fn method(&self) -> &Method
+        ensures { result.now ≡ self.now.method }
+    {
+        &self.method
+    }
+
     /// Sets the body to this text.
     pub fn with_body(self, body: &'static str) -> TestRequest
         ensures body { body_bytes result.body ≡ body.now }
@@ -278,6 +286,19 @@ impl TestRequest {
         let mut request = self;
         request.headers.push(header)?;
         Ok(request)
+    }
+
+    /// Appends the header that `Header::new` makes from this name and value. Fails with `Refused` if the texts make no
+    /// header, and with `Memory` if memory can't be allocated.
+    pub fn with(self, alloc: Global, name: &str, value: &str) -> Result<TestRequest, ParseError>
+        ensures headers { IfOk result
+            (λ r. r.headers.items ≡ self.headers.items ++ (header_of name.now value.now ∷ [])) }
+        ensures body { IfOk result (λ r. r.body ≡ self.body) }
+        ensures others { IfOk result (λ r. IsLike self r) }
+        ensures refused { IsErrOf result ParseError.Refused ↔ ¬ (AreHeaderTexts name.now value.now) }
+    {
+        let header = Header::new(alloc, name, value)?;
+        Ok(self.with_header(header)?)
     }
 
     /// Makes the request as `into_request_over` does. Its response is discarded.
