@@ -1,16 +1,20 @@
 //! The handler of a scene's server.
+use crate::links::Host;
 use std::alloc::Global;
 use std::io::{ErrorKind, Read, Write};
-use std::sync::atomic::{AtomicBool, Ordering};
+use std::net::Net;
+use std::sync::atomic::{AtomicBool, AtomicUsize, Ordering};
 use std::sync::{Arc, Wait};
 use std::time::{Clock, Duration};
 use std::{io, thread};
 use test_scene_props::requests::{short_answer, text_answer};
 use tiny_http::common::StatusCode;
+use tiny_http::connection::SocketFiles;
 use tiny_http::messages_queue::MessagesQueue;
 use tiny_http::response::Response;
 use tiny_http::server::{ServerRequest, current_date};
 use tiny_http::serving::Handler;
+use tiny_http::stopping::StopHandle;
 
 // Maximum number of one-millisecond pauses for which a handler waits at its gate.
 const LONGEST: u32 = 10_000;
@@ -20,12 +24,16 @@ const LONG: usize = 20_000;
 
 /// A handler that responds according to a request's path.
 #[derive(Drop)]
-pub(crate) struct ByPath<R: Wait + Clock + Drop> {
+pub(crate) struct ByPath<R: Net + SocketFiles + Wait + Clock + Drop> {
     /// The requests that are kept: all if `keeps_all` is set, and those for `/keep` otherwise.
     pub kept: Arc<MessagesQueue<ServerRequest<R>>>,
     pub keeps_all: Arc<AtomicBool>,
     /// Whether a call to the handler that waits at the gate may continue.
     pub gate: Arc<AtomicBool>,
+    /// Stops the server, once it is there.
+    pub stops: Arc<MessagesQueue<StopHandle<R>>>,
+    /// The number of errors of the handler.
+    pub errors: AtomicUsize,
 }
 
 // Responds with the request target as the body. If `is_last`, the connection closes after the response.
@@ -107,7 +115,7 @@ fn write_long<R: Wait + Clock + Drop>(
     body.finish()
 }
 
-impl<R: Wait + Clock + Drop> Handler<R, ServerRequest<R>> for ByPath<R> {
+impl<R: Host> Handler<R, ServerRequest<R>> for ByPath<R> {
     /// Keeps the request if `keeps_all` is set. Otherwise acts according to the request's target:
     ///
     /// - `/keep`: keeps the request.
@@ -117,6 +125,8 @@ impl<R: Wait + Clock + Drop> Handler<R, ServerRequest<R>> for ByPath<R> {
     /// - `/long`: responds with `LONG` bytes.
     /// - `/short`: responds with three bytes, and states a length of ten.
     /// - `/greet`: upgrades it.
+    /// - `/stop`: begins to stop the server, and responds with the target.
+    /// - `/errors`: responds with the number of errors of the handler so far.
     /// - Any other target: responds with the target as the body, for `/wait` after `wait_at`, and for `/close` with a
     ///   response that closes the connection.
     ///
@@ -144,11 +154,26 @@ impl<R: Wait + Clock + Drop> Handler<R, ServerRequest<R>> for ByPath<R> {
                 request.respond(answer, current_date(rt))
             }
             "/close" => answer_path(rt, alloc, request, true),
+            "/stop" => {
+                if let Some(stop_handle) = self.stops.try_pop(rt) {
+                    stop_handle.stop();
+                }
+                answer_path(rt, alloc, request, false)
+            }
+            "/errors" => {
+                let text = format!(in alloc; "{}", self.errors.load(Ordering::SeqCst))?;
+                request.respond(text_answer(alloc, text.as_str())?, current_date(rt))
+            }
             "/wait" => {
                 wait_at(rt, &self.gate);
                 answer_path(rt, alloc, request, false)
             }
             _ => answer_path(rt, alloc, request, false),
         }
+    }
+
+    /// Counts the error.
+    fn on_error(&self, _rt: &R, _alloc: Global, _error: io::Error) {
+        self.errors.fetch_add(1, Ordering::SeqCst);
     }
 }

@@ -10,7 +10,7 @@ use std::os::fd::OwnedFd;
 use std::os::unix::net::UnixStream;
 use std::path::{Path, PathBuf};
 use std::sync::Arc;
-use std::sync::atomic::{AtomicBool, Ordering};
+use std::sync::atomic::{AtomicBool, AtomicUsize, Ordering};
 use std::time::Duration;
 use std::{io, thread};
 use test_scene_files::client::Client;
@@ -122,10 +122,15 @@ fn handler_of<R: Host>(alloc: Global, keeps_all: bool) -> Result<Arc<ByPath<R>>,
     let Ok(kept) = MessagesQueue::with_capacity(alloc, KEPT_ROOM) else {
         return Err(Mishap::OutOfMemory);
     };
+    let Ok(stops) = MessagesQueue::with_capacity(alloc, 1) else {
+        return Err(Mishap::OutOfMemory);
+    };
     let by_path = ByPath {
         kept,
         keeps_all: shared(alloc, AtomicBool::new(keeps_all))?,
         gate: shared(alloc, AtomicBool::new(false))?,
+        stops,
+        errors: AtomicUsize::new(0),
     };
     shared(alloc, by_path)
 }
@@ -151,6 +156,9 @@ pub(crate) fn first_hands<R: Host>(
     let Ok(server) = server_of(rt, alloc, ground, place) else {
         return Err(Mishap::Unplayable("there is no such server here"));
     };
+    if hands.handler.stops.push(rt, server.stop_handle()?).is_err() {
+        return Err(Mishap::OutOfMemory);
+    }
     hands.addr = Some(server.server_addr());
     hands.server = Some(shared(alloc, server)?);
     Ok(hands)

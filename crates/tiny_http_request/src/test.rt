@@ -297,8 +297,10 @@ impl TestRequest {
         ensures others { IfOk result (λ r. IsLike self r) }
         ensures refused { IsErrOf result ParseError.Refused ↔ ¬ (AreHeaderTexts name.now value.now) }
     {
-        let header = Header::new(alloc, name, value)?;
-        Ok(self.with_header(header)?)
+        match Header::new(alloc, name, value) {
+            Ok(header) => Ok(self.with_header(header)?),
+            Err(error) => Err(error),
+        }
     }
 
     /// Makes the request as `into_request_over` does. Its response is discarded.
