@@ -1,0 +1,2 @@
+pub mod Browser
+pub mod Events
