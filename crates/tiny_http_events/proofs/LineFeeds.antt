@@ -9,11 +9,11 @@ use Rattle.tiny_http_text.proofs.BytesLemmas.{parts-word, parts-last}
 use Rattle.tiny_http_events.specs.Browser.{ends_line, IsOneLine, as_line_feed, with_line_feeds, line_feed, all_but_last, lines}
 use Rattle.tiny_http_events.specs.Events.{field_line, field_lines}
 
-or-left : (x y : Bool) → not (x || y) ≡ true → x ≡ false
+pub or-left : (x y : Bool) → not (x || y) ≡ true → x ≡ false
 or-left true y h = sym h
 or-left false y h = refl
 
-or-right : (x y : Bool) → not (x || y) ≡ true → y ≡ false
+pub or-right : (x y : Bool) → not (x || y) ≡ true → y ≡ false
 or-right true y h = absurd (false≢true h)
 or-right false true h = sym h
 or-right false false h = refl

@@ -68,7 +68,7 @@ dispatching s text =
     record s { events = s.events ++ event ∷ []; last_id = s.id; name = []; texts = [] }
 
 module _ (p : ℕ → Bool) where
-  abbrev IsFilled : List (List ℕ) → Bool
+  abbrev pub IsFilled : List (List ℕ) → Bool
   IsFilled [] = false
   IsFilled (l ∷ ls) = true
 
@@ -85,7 +85,7 @@ module _ (p : ℕ → Bool) where
   dispatched-filled [] s h = absurd (false≢true h)
   dispatched-filled (l ∷ ls) s h = refl
 
-abbrev is_feed : ℕ → Bool
+abbrev pub is_feed : ℕ → Bool
 is_feed b = b == line_feed
 
 pub dispatched-text : (text : List ℕ) (s : Browser) → dispatched (parts line_feed text) s ≡ dispatching s text
@@ -140,6 +140,11 @@ number-step : (ds : List ℕ) → 0 < length ds → all_ascii_digits ds ≡ true
 number-step [] l h = absurd (omega (arith, l))
 number-step (d ∷ ds) l h = h
 
+pub decimal-line : (n : ℕ) → n < 2 ^ 32 → IsOneLine (decimal n)
+decimal-line n h =
+    let small : n < 2 ^ 64 = omega (arith, h) in
+    digits-line (decimal n) (digits_decimal own-digits n small)
+
 retry-after : (ds : List ℕ) (n : ℕ) (s : Browser) → is_number ds ≡ true → digits_value 10 ds ≡ n → with_field (codes "retry") ds s ≡ record s { retry = Some n }
 retry-after ds n s i v = rw (i, v) refl
 
@@ -153,7 +158,7 @@ reads-retry (Some n) events old last_id id name rest h =
     reads-field s (record s { retry = Some n }) (codes "retry") (decimal n) rest refl (digits-line (decimal n) digits)
     (retry-after (decimal n) n s (number-step (decimal n) (decimal_nonempty n small) digits) (digits_value-decimal own-digits n small))
 
-regroup : (a b c d rest : List ℕ) → (a ++ b ++ c ++ d ++ line_feed ∷ []) ++ rest ≡ a ++ (b ++ (c ++ (d ++ line_feed ∷ rest)))
+pub regroup : (a b c d rest : List ℕ) → (a ++ b ++ c ++ d ++ line_feed ∷ []) ++ rest ≡ a ++ (b ++ (c ++ (d ++ line_feed ∷ rest)))
 regroup a b c d rest =
     append_assoc (a ++ b ++ c ++ d) (line_feed ∷ []) rest
     ∙ (append_assoc (a ++ b ++ c) d (line_feed ∷ rest)

@@ -6,6 +6,8 @@ ghost use Rattle.tiny_http_events.specs.Browser.{IsOneLine, ends_line, has_nul, 
 ghost use Rattle.tiny_http_events.specs.Events.{field_line, field_lines, comment_text, IsIgnored};
 
 use std::alloc::AllocError;
+use std::io;
+use std::io::ErrorKind;
 use std::marker::Model;
 use thiserror::Error;
 use tiny_http_text::number::Numeral;
@@ -22,6 +24,18 @@ pub enum EventError {
     /// The ID contains a NUL: a browser ignores such an ID.
     #[error("a NUL in the id of an event")]
     NulInId,
+}
+
+impl From<EventError> for io::Error {
+    ghost use Rattle.std.specs.IoError.{error_kind};
+    ghost use Rattle.std.specs.declared.io.ErrorKind.TheVariants.{InvalidInput};
+
+    ghost from_gives = { λ _ fault. error_kind fault ≡ InvalidInput };
+
+    /// Converts the error to `InvalidInput`, so that `?` works in a function that returns an `io::Result`.
+    fn from(_: EventError) -> io::Error {
+        ErrorKind::InvalidInput.into()
+    }
 }
 
 /// An event of a stream: data, and optionally a name, an ID, and a reconnection time. It borrows its texts.
