@@ -2,27 +2,32 @@
 //!
 //! `GET /` returns the page, `POST /say` adds the message in its body, `GET /events` streams the messages after
 //! `Last-Event-ID` as server-sent events, and `GET /streams` returns how many streams are open. A stream holds its
-//! worker while it lasts: `serve` starts further workers for the other connections. It ends once a write fails, at most
+//! worker while it lasts; `serve` starts further workers for the other connections. It ends when a write fails, at most
 //! two heartbeats after its client has gone.
 #![tactic(auto)]
 
+mod board;
+
+use crate::board::Board;
 use std::alloc::Global;
 use std::io::ErrorKind;
-use std::sync::atomic::{AtomicU64, Ordering};
-use std::sync::{Arc, Condvar, Mutex, Wait};
-use std::time::{Clock, Duration};
+use std::sync::Arc;
+use std::sync::atomic::Ordering::SeqCst;
+use std::time::Duration;
 use std::{env, io};
-use tiny_http::device::{ReadDevice, WriteDevice};
 use tiny_http::{
-    BodyError, ConfigListenAddr, Handler, Limits, Method, Profile, Request, Response, Server,
-    ServerConfig, StatusCode, StreamedBody, current_date,
+    BodyError, ConfigListenAddr, Handler, Host, Limits, Method, Profile, Response, Server,
+    ServerConfig, ServerRequest, ServerWriter, StatusCode, StreamedBody, current_date,
 };
 use tiny_http_events::event::Event;
 use tiny_http_events::stream::{EventStream, last_event_id};
 
-const LONGEST_MESSAGE: usize = 4096;
-const MOST_MESSAGES: usize = 10_000;
-const HEARTBEAT_SECONDS: u64 = 3;
+// Maximum length of a message in bytes.
+const LONGEST: usize = 4096;
+
+// Seconds without a message after which a stream sends a heartbeat.
+const HEARTBEAT: u64 = 3;
+
 const PAGE: &str = "<!DOCTYPE html><title>Messages</title><ul id=list></ul>
 <form id=form><input id=text><button>Say</button></form><script>
 new EventSource('/events').onmessage = e => {
@@ -31,63 +36,20 @@ new EventSource('/events').onmessage = e => {
 form.onsubmit = e => { e.preventDefault(); fetch('/say', {method: 'POST', body: text.value}); form.reset(); };
 </script>";
 
-/// The messages, numbered from 1 on, which the threads share. `news` is notified when one is added.
-#[derive(Drop)]
-struct Board {
-    texts: Mutex<Vec<Arc<String>>>,
-    news: Condvar,
-    open_streams: AtomicU64,
-}
-
 impl Board {
-    // Reads the message in the request's body, and adds it. Returns the status code of the response.
-    fn add<R: ReadDevice + Drop, W: WriteDevice + Drop, Rt: Clock + Wait + Drop>(
+    // Sends the messages after the last one that the client has received, until the client has gone.
+    fn send<Rt: Host>(
         &self,
         rt: &Rt,
         alloc: Global,
-        request: &mut Request<R, W, Rt>,
-    ) -> io::Result<u16> {
-        let body = match request.read_body(alloc, LONGEST_MESSAGE, current_date(rt)) {
-            Ok(body) => body,
-            Err(BodyError::TooLong) => return Ok(413),
-            Err(BodyError::Cut | BodyError::Broken) => return Ok(400),
-            Err(error) => return Err(error.into()),
-        };
-        let Ok(text) = String::from_utf8(body) else {
-            return Ok(400);
-        };
-        let text = Arc::new(alloc, text)?;
-        let mut texts = self.texts.lock(rt);
-        if texts.len() >= MOST_MESSAGES {
-            return Ok(507);
-        }
-        texts.push(text)?;
-        self.news.notify_all();
-        Ok(202)
-    }
-
-    // Waits for the message after the first `count`. Returns `None` if there is none before the next heartbeat.
-    fn next<Rt: Clock + Wait>(&self, rt: &Rt, count: usize) -> io::Result<Option<Arc<String>>> {
-        let texts = self.texts.lock(rt);
-        let time = Duration::from_secs(HEARTBEAT_SECONDS);
-        let (texts, _) =
-            self.news.wait_timeout_while(rt, texts, time, |texts| texts.len() <= count);
-        match texts.get(count) {
-            Some(text) => Ok(Some(Arc::try_clone(text)?)),
-            None => Ok(None),
-        }
-    }
-
-    // Sends the messages after the first `count`, until the client has gone. The lock isn't held during a write.
-    fn send<W: WriteDevice + Drop, Rt: Clock + Wait + Drop>(
-        &self,
-        rt: &Rt,
-        alloc: Global,
-        stream: &mut EventStream<StreamedBody<W, Rt>>,
-        mut count: usize,
+        mut stream: EventStream<StreamedBody<ServerWriter<Rt>, Rt>>,
+        last_id: Option<usize>,
     ) -> io::Result<()> {
+        // An ID of an earlier run may be greater than all of this one.
+        let mut count = last_id.unwrap_or(0).min(self.count(rt));
         for _ in rt.forever() {
-            let Some(text) = self.next(rt, count)? else {
+            let time = Duration::from_secs(HEARTBEAT);
+            let Some(text) = self.next(rt, count, time)? else {
                 stream.comment("")?;
                 continue;
             };
@@ -95,51 +57,41 @@ impl Board {
             let id = format!(in alloc; "{count}")?;
             stream.send(&Event::new(text.as_str()).with_id(id.as_str())?)?;
         }
-        Ok(())
-    }
-
-    // Answers with a stream of the messages after the one that the client has received last.
-    fn stream<R: ReadDevice + Drop, W: WriteDevice + Drop, Rt: Clock + Wait + Drop>(
-        &self,
-        rt: &Rt,
-        alloc: Global,
-        request: Request<R, W, Rt>,
-    ) -> io::Result<()> {
-        let count = last_event_id(&request).and_then(|id| id.parse::<usize>().ok());
-        let Some(mut stream) = EventStream::respond(alloc, request, current_date(rt))? else {
-            return Ok(());
-        };
-        self.open_streams.fetch_add(1, Ordering::SeqCst);
-        let sent = self.send(rt, alloc, &mut stream, count.unwrap_or(0));
-        self.open_streams.fetch_sub(1, Ordering::SeqCst);
-        sent
+        stream.finish()
     }
 }
 
-impl<R: ReadDevice + Drop, W: WriteDevice + Drop, Rt: Clock + Wait + Drop> Handler<
-    Rt,
-    Request<R, W, Rt>,
-> for Board {
+impl<Rt: Host> Handler<Rt, ServerRequest<Rt>> for Board {
     /// Answers a request by its method and path.
-    fn handle(&self, rt: &Rt, alloc: Global, request: Request<R, W, Rt>) -> io::Result<()> {
+    fn handle(&self, rt: &Rt, alloc: Global, request: ServerRequest<Rt>) -> io::Result<()> {
         let mut request = request;
-        let text = match (request.method(), request.path()) {
-            (Method::Get, "/events") => return self.stream(rt, alloc, request),
+        let now = current_date(rt);
+        let answer = match (request.method(), request.path()) {
+            (Method::Get | Method::Head, "/events") => {
+                let last_id = last_event_id(&request).and_then(|id| id.parse::<usize>().ok());
+                let Some(stream) = EventStream::respond(alloc, request, now)? else {
+                    return Ok(());
+                };
+                self.streams.fetch_add(1, SeqCst);
+                let sent = self.send(rt, alloc, stream, last_id);
+                self.streams.fetch_sub(1, SeqCst);
+                return sent;
+            }
+            (Method::Post, "/say") => match request.read_body(alloc, LONGEST, now) {
+                Ok(body) => Response::status(alloc, StatusCode(self.add(rt, alloc, body)?))?,
+                Err(BodyError::TooLong) => Response::status(alloc, StatusCode(413))?,
+                Err(error) => return Err(error.into()),
+            },
             (Method::Get, "/streams") => {
-                format!(in alloc; "{}", self.open_streams.load(Ordering::SeqCst))?
+                Response::from_string(alloc, self.streams.load(SeqCst).to_string(alloc)?)?
             }
-            (Method::Get, "/") => {
+            (Method::Get | Method::Head, "/") => {
                 let page = Response::from_data(alloc, PAGE.as_bytes().to_vec(alloc)?);
-                let page = page.with(alloc, "Content-Type", "text/html; charset=utf-8")?;
-                return request.respond(page, current_date(rt));
+                page.with(alloc, "Content-Type", "text/html; charset=utf-8")?
             }
-            (Method::Post, "/say") => {
-                let status = StatusCode(self.add(rt, alloc, &mut request)?);
-                return request.respond(Response::status(alloc, status)?, current_date(rt));
-            }
-            _ => return request.respond(Response::status(alloc, StatusCode(404))?, current_date(rt)),
+            _ => Response::status(alloc, StatusCode(404))?,
         };
-        request.respond(Response::from_string(alloc, text)?, current_date(rt))
+        request.respond(answer, current_date(rt))
     }
 }
 
@@ -148,13 +100,8 @@ fn main(rt: HostRuntime) -> io::Result<()> {
     let [_, address] = words.as_slice() else {
         return Err(ErrorKind::InvalidInput.into());
     };
-    let board = Board {
-        texts: Mutex::new(Vec::new(rt.alloc())),
-        news: Condvar::new(),
-        open_streams: AtomicU64::new(0),
-    };
     let addr = ConfigListenAddr::from_socket_addrs(&rt, rt.alloc(), address.as_str())?;
     let config = ServerConfig { addr, ssl: None };
     let server = Server::with(rt, rt.alloc(), config, Profile::Standard, Limits::new())?;
-    server.serve(rt.alloc(), &Arc::new(rt.alloc(), board)?)
+    server.serve(rt.alloc(), &Arc::new(rt.alloc(), Board::new(rt.alloc()))?)
 }

@@ -1,17 +1,16 @@
 -- Lemmas on streams that end within an event: nothing more is dispatched.
-use Rattle.std.proofs.Common.{◌≡◌, ◌≢◌, refl, sym, ap, ◌∙◌, eqb-true, ℕ, ◌<◌, ◌^◌, Bool, true, false, cond, not, ◌&&◌, List, [], ◌∷◌, ◌++◌, append_assoc, Option, Some, None}
+use Rattle.std.proofs.Common.{◌≡◌, refl, sym, ap, ◌∙◌, eqb-true, ℕ, ◌<◌, ◌^◌, Bool, true, false, cond, not, ◌&&◌, List, [], ◌∷◌, ◌++◌, append_assoc, Option, Some, None}
 use Rattle.std.specs.Prelude.{◌==◌, codes, decimal}
-use Rattle.std.specs.List.{list_all, flat_map, slice_split, onto_first}
+use Rattle.std.specs.List.{list_all, flat_map, onto_first}
 use Rattle.std.specs.Option.{IfSome}
 use Rattle.std.specs.Str.{bytes_eq}
 use Rattle.std.proofs.lemmas.Bool.{and_parts, false≢true, not-true}
-use Rattle.std.proofs.lemmas.List.{append-nil}
 use Rattle.tiny_http_text.specs.Bytes.{parts, colon, space}
 use Rattle.tiny_http_text.specs.QualityReading.{cut}
-use Rattle.tiny_http_events.specs.Browser.{IsOneLine, has_nul, with_line_feeds, line_feed, lines, all_but_last, Dispatched, Browser, with_field, with_field_line, after_line, after_lines, reads, is_number, without_space}
+use Rattle.tiny_http_events.specs.Browser.{IsOneLine, has_nul, with_line_feeds, line_feed, all_but_last, Dispatched, Browser, with_field, with_field_line, after_line, after_lines, reads, is_number, without_space}
 use Rattle.tiny_http_events.specs.Events.{EventValue, IsEvent, IsId, field_line, field_lines, name_line, id_line, retry_line, event_text}
 use Rattle.tiny_http_events.proofs.LineFeeds.{is_inner, feeds-plain, all-but-split, are_lines, or-left, or-right}
-use Rattle.tiny_http_events.proofs.Reading.{regroup, one-line-append, text-lines, decimal-line}
+use Rattle.tiny_http_events.proofs.Reading.{one-line-append, text-lines, decimal-line}
 
 -- whether the text has no CR and no empty line; `begun` says whether it continues a line that isn't empty
 abbrev pub is_filled_text : Bool → List ℕ → Bool
@@ -39,8 +38,8 @@ front-filled begun (b ∷ xs) ys h =
 feeds-step : (b : ℕ) (bs : List ℕ) (t : Bool) (begun x y : Bool) → (b == 10) ≡ t → cond t (begun && x) (not (b == 13) && y) ≡ true → ((x ≡ true) → with_line_feeds bs ≡ bs) → ((y ≡ true) → with_line_feeds bs ≡ bs) → with_line_feeds (b ∷ bs) ≡ b ∷ bs
 feeds-step b bs true begun x y e h f g = feeds-plain b bs (ten b e) ∙ ap (λ z. b ∷ z) (f (and_parts begun x h).1)
   where
-  ten : (c : ℕ) → (c == 10) ≡ true → (c == 13) ≡ false
-  ten c e = ap (λ z. z == 13) (eqb-true c 10 e)
+    ten : (c : ℕ) → (c == 10) ≡ true → (c == 13) ≡ false
+    ten c e = ap (λ z. z == 13) (eqb-true c 10 e)
 feeds-step b bs false begun x y e h f g =
     let k = and_parts (not (b == 13)) y h in
     feeds-plain b bs (not-true (b == 13) k.0) ∙ ap (λ z. b ∷ z) (g k.1)

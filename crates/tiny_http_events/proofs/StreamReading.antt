@@ -1,5 +1,5 @@
 -- Lemmas on what a browser reads from the text of a stream.
-use Rattle.std.proofs.Common.{◌≡◌, refl, sym, ap, ◌∙◌, ℕ, Bool, true, false, cond, not, ◌&&◌, List, [], ◌∷◌, ◌++◌, append_assoc, Option, Some, None}
+use Rattle.std.proofs.Common.{◌≡◌, refl, sym, ap, ◌∙◌, ℕ, Bool, true, not, List, [], ◌∷◌, ◌++◌, append_assoc, Option, Some, None}
 use Rattle.std.specs.Prelude.{◌==◌, codes}
 use Rattle.std.specs.List.{flat_map}
 use Rattle.std.proofs.lemmas.Bool.{false≢true, not-true}
@@ -7,7 +7,7 @@ use Rattle.std.proofs.lemmas.List.{append-nil}
 use Rattle.tiny_http_text.specs.Bytes.{parts}
 use Rattle.tiny_http_events.specs.Browser.{Browser, with_line_feeds, line_feed, IsBetweenEvents, reads, reads_stream, without_mark}
 use Rattle.tiny_http_events.specs.Events.{EventValue, IsEvent, field_line, field_lines, name_line, id_line, retry_line, event_text, comment_text, after_event}
-use Rattle.tiny_http_events.specs.Streams.{Item, Sent, Comment, AreItems, item_text, stream_text, after_item, after_items}
+use Rattle.tiny_http_events.specs.Streams.{Item, Sent, Comment, AreItems, item_text, stream_text, after_items}
 use Rattle.tiny_http_events.proofs.Cuts.{cut-events}
 use Rattle.tiny_http_events.proofs.Reading.{IsFilled, is_feed, filled-split, regroup, event-read, comment-ignored}
 
@@ -69,7 +69,7 @@ unfolding reads
 stream-read items s ok between =
     let whole = append-nil (stream_text items) in
     let plain : has_plain_front (stream_text items) ≡ true =
-        ap has_plain_front (sym whole) ∙ plain-items items [] refl in
+    ap has_plain_front (sym whole) ∙ plain-items items [] refl in
     ap (reads s) (unmarked (stream_text items) plain)
     ∙ (ap (reads s) (sym whole) ∙ items-read items s [] ok between)
 
@@ -82,7 +82,7 @@ pub cut-read : (items : List Item) (s : Browser) (e : EventValue) (part : List �
     → (reads_stream s (stream_text items ++ part)).events ≡ (after_items items s).events
 cut-read items s e part next rest ok event between h =
     let text : has_plain_front (event_text e) ≡ true =
-        ap has_plain_front (sym (append-nil (event_text e))) ∙ plain-item (Sent e) [] in
+    ap has_plain_front (sym (append-nil (event_text e))) ∙ plain-item (Sent e) [] in
     let plain = plain-items items part (front-plain part (next ∷ rest) (ap has_plain_front (sym h) ∙ text)) in
     ap (λ x. (reads s x).events) (unmarked (stream_text items ++ part) plain)
     ∙ (ap (λ b. b.events) (items-read items s part ok between)

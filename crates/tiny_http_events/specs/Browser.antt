@@ -60,10 +60,6 @@ pub record Browser : Type 0 where
   pub name : List ℕ
   pub texts : List (List ℕ)
 
--- a browser before the first byte of its first stream
-abbrev pub new_browser : Browser
-new_browser = record { events = []; retry = None; last_id = []; id = []; name = []; texts = [] }
-
 abbrev pub name_or_message : List ℕ → List ℕ
 name_or_message [] = codes "message"
 name_or_message (b ∷ bs) = b ∷ bs

@@ -166,7 +166,8 @@ impl<'a> Event<'a> {
     }
 
     /// Names the event: the type that a browser's listeners are registered for. Without a name, or with an empty one,
-    /// it is `message`. Fails if the name contains a CR or an LF.
+    /// it is `message`. Listeners can't tell `open` and `error` from the browser's own events. Fails if the name contains
+    /// a CR or an LF.
     pub fn with_name(mut self, name: &'a str) -> Result<Event<'a>, EventError>
         ensures ok { IfOk result (λ e. e ≡ record self.entry { name = name.now }) }
         ensures taken { OnOk result (IsOneLine name.now) }
