@@ -1,6 +1,6 @@
 //! Events, and the text of a `text/event-stream` (HTML standard, section 9.2.5).
-ghost use Rattle.std.specs.Prelude.{◌≡◌, ◌<◌, ◌≤◌, ◌++◌, [], ◌∷◌, length, take, slice_index, IfSome, IfNone, IfOk, OnOk};
-ghost use Rattle.std.specs.Prelude.{not, true};
+ghost use Rattle.std.specs.Prelude.{◌≡◌, ◌<◌, ◌≤◌, ◌++◌, [], ◌∷◌, length, take, slice_index};
+ghost use Rattle.std.specs.Prelude.{IfSome, IfNone, IfOk, OnOk, not, true};
 ghost use Rattle.std.specs.List.{list_all};
 ghost use Rattle.tiny_http_events.specs.Browser.{IsOneLine, ends_line, has_nul, with_line_feeds, line_feed};
 ghost use Rattle.tiny_http_events.specs.Events.{field_line, field_lines, comment_text, IsIgnored};
@@ -150,7 +150,8 @@ fn put_fields(text: &mut Vec<u8>, name: &str, value: &str) -> Result<(), AllocEr
 
 impl<'a> Event<'a> {
     ghost use Rattle.std.specs.Prelude.{Some, OnOk, IfOk, IfErr};
-    ghost use Rattle.tiny_http_events.specs.Events.{event_of, event_text, name_line, id_line, retry_line, IsId, IsIdError, IsReadAs};
+    ghost use Rattle.tiny_http_events.specs.Events.{event_of, event_text, name_line, id_line, retry_line};
+    ghost use Rattle.tiny_http_events.specs.Events.{IsId, IsIdError, IsReadAs};
 
     /// Creates an event with these data, and without a name, an ID or a reconnection time. A CR LF, an LF or a CR ends
     /// a line of the data: the browser gets an LF for each. Empty data are dispatched too, as the empty text.
@@ -166,8 +167,8 @@ impl<'a> Event<'a> {
     }
 
     /// Names the event: the type that a browser's listeners are registered for. Without a name, or with an empty one,
-    /// it is `message`. Listeners can't tell `open` and `error` from the browser's own events. Fails if the name contains
-    /// a CR or an LF.
+    /// it is `message`. Listeners can't tell `open` and `error` from the browser's own events. Fails if the name
+    /// contains a CR or an LF.
     pub fn with_name(mut self, name: &'a str) -> Result<Event<'a>, EventError>
         ensures ok { IfOk result (λ e. e ≡ record self.entry { name = name.now }) }
         ensures taken { OnOk result (IsOneLine name.now) }

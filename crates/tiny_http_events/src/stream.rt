@@ -16,8 +16,8 @@ use tiny_http_io::device::{ReadDevice, WriteDevice};
 use tiny_http_request::request::{Request, StreamedBody, StreamedForm};
 use tiny_http_response::response::Response;
 
-/// Returns the value of the first `Last-Event-ID` header: the ID of the last event that the client has received, when it
-/// reconnects (HTML standard, section 9.2.4). Returns `None` if there is none.
+/// Returns the value of the first `Last-Event-ID` header: the ID of the last event that a client which reconnects has
+/// received (HTML standard, section 9.2.4). Returns `None` if there is none.
 pub fn last_event_id<R: ReadDevice + Drop, W: WriteDevice + Drop, Rt: Wait + Drop>(
     request: &Request<R, W, Rt>,
 ) -> Option<&str>
