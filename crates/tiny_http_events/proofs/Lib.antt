@@ -1,0 +1,4 @@
+pub mod LineFeeds
+pub mod Reading
+pub mod Cuts
+pub mod StreamReading

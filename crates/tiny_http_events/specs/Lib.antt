@@ -1,0 +1,4 @@
+pub mod Browser
+pub mod Events
+pub mod Streams
+pub mod Responses

@@ -1,0 +1,127 @@
+//! Streams of events: the response, and the writer of its body.
+ghost use Rattle.std.specs.Prelude.{◌≡◌, codes, IfOk};
+ghost use Rattle.std.specs.Option.{option_copied};
+ghost use Rattle.tiny_http_body.specs.Framing.{value_of};
+ghost use Rattle.tiny_http_request.specs.Request.{request_head};
+ghost use Rattle.tiny_http_events.specs.Responses.{stream_answer};
+
+use crate::event::{Event, append_comment};
+use httpdate::HttpDate;
+use std::alloc::{AllocError, Global};
+use std::io;
+use std::io::Write;
+use std::sync::Wait;
+use tiny_http_head::common::StatusCode;
+use tiny_http_io::device::{ReadDevice, WriteDevice};
+use tiny_http_request::request::{Request, StreamedBody, StreamedForm};
+use tiny_http_response::response::Response;
+
+/// Returns the value of the first `Last-Event-ID` header: the ID of the last event that a client which reconnects has
+/// received (HTML standard, section 9.2.4). Returns `None` if there is none.
+pub fn last_event_id<R: ReadDevice + Drop, W: WriteDevice + Drop, Rt: Wait + Drop>(
+    request: &Request<R, W, Rt>,
+) -> Option<&str>
+    ensures { option_copied result ≡ value_of (codes "Last-Event-ID") (request_head request.now).headers.items }
+{
+    request.header("Last-Event-ID")
+}
+
+/// Returns the response that `EventStream::respond` begins: a 200 with `Content-Type: text/event-stream` and
+/// `Cache-Control: no-store`. A program may add headers to it. Fails if memory can't be allocated.
+pub fn stream_response(alloc: Global) -> Result<Response<io::Empty>, AllocError>
+    ensures { IfOk result (λ r. r.answer ≡ stream_answer) }
+{
+    let response = Response::empty(alloc, StatusCode(200));
+    let Ok(response) = response.with(alloc, "Content-Type", "text/event-stream") else {
+        return Err(AllocError);
+    };
+    response
+        .with(alloc, "Cache-Control", "no-store")
+        .map_err(|_| AllocError)
+}
+
+/// A writer of events and comments, mostly over the body of a response that grows while it is sent. Each call sends
+/// what it writes. It keeps the memory of its longest text for the next.
+///
+/// A client that has gone is noticed only by writing: the first or the second write after that fails. So a stream
+/// without an end must write regularly, for example a comment every 15 seconds if there is no event, or it keeps its
+/// thread and its connection. After an error the stream is over: what the client has got of it may be cut.
+#[derive(Drop)]
+pub struct EventStream<W: Write> {
+    inner: W,
+    text: Vec<u8>,
+}
+
+impl<W: Write> EventStream<W> {
+    /// Creates a stream on a writer to which nothing, or whole events, have been written. Allocates nothing.
+    pub fn new(alloc: Global, inner: W) -> EventStream<W> {
+        EventStream {
+            inner,
+            text: Vec::new(alloc),
+        }
+    }
+
+    // Writes the text and flushes the writer.
+    fn put(&mut self) -> io::Result<()> {
+        self.inner.write_all(self.text.as_slice())?;
+        self.inner.flush()
+    }
+
+    /// Writes the event and flushes the writer. Fails with the writer's fault, or if memory can't be allocated; in that
+    /// case nothing is written.
+    pub fn send(&mut self, event: &Event) -> io::Result<()> {
+        self.text.clear();
+        event.append_to(&mut self.text)?;
+        self.put()
+    }
+
+    /// Writes a comment, which the browser ignores, and flushes the writer. A comment with empty text is a heartbeat.
+    /// Fails as `send` does.
+    pub fn comment(&mut self, comment: &str) -> io::Result<()> {
+        self.text.clear();
+        append_comment(comment, &mut self.text)?;
+        self.put()
+    }
+
+    /// Returns the writer.
+    pub fn into_inner(self) -> W {
+        let Self { inner, text } = self;
+        drop(text);
+        inner
+    }
+}
+
+impl<W: WriteDevice + Drop, Rt: Wait + Drop> EventStream<StreamedBody<W, Rt>> {
+    /// Begins the response that `stream_response` returns, dated `now`, and sends its head, in the turn of the request.
+    /// Returns `None` if the body mustn't be sent, as after a `HEAD`: then the response is complete. Fails as
+    /// `Request::respond_streaming` does, or if memory can't be allocated.
+    pub fn respond<R: ReadDevice + Drop>(
+        alloc: Global,
+        request: Request<R, W, Rt>,
+        now: HttpDate,
+    ) -> io::Result<Option<EventStream<StreamedBody<W, Rt>>>> {
+        EventStream::respond_with(alloc, request, stream_response(alloc)?, now)
+    }
+
+    /// Begins this response, mostly that of `stream_response` with further headers, as `respond` does.
+    pub fn respond_with<R: ReadDevice + Drop, D: Drop>(
+        alloc: Global,
+        request: Request<R, W, Rt>,
+        response: Response<D>,
+        now: HttpDate,
+    ) -> io::Result<Option<EventStream<StreamedBody<W, Rt>>>> {
+        let mut body = request.respond_streaming(response, now)?;
+        if body.form() == StreamedForm::Absent {
+            body.finish()?;
+            return Ok(None);
+        }
+        body.flush()?;
+        Ok(Some(EventStream::new(alloc, body)))
+    }
+
+    /// Ends the body, and with it the turn of the request, as `StreamedBody::finish` does. A browser reconnects after
+    /// the end; it doesn't if it gets a 204 then.
+    pub fn finish(self) -> io::Result<()> {
+        self.into_inner().finish()
+    }
+}
