@@ -2,31 +2,28 @@
 ghost use Rattle.std.specs.Prelude.{◌≡◌, codes, IfOk};
 ghost use Rattle.std.specs.Option.{option_copied};
 ghost use Rattle.tiny_http_body.specs.Framing.{value_of};
-ghost use Rattle.tiny_http_request.specs.Request.{request_head};
 ghost use Rattle.tiny_http_events.specs.Responses.{stream_answer};
 
 use crate::event::{Event, append_comment};
-use httpdate::HttpDate;
 use std::alloc::{AllocError, Global};
 use std::io;
 use std::io::Write;
 use std::sync::Wait;
 use tiny_http_head::common::StatusCode;
-use tiny_http_io::device::{ReadDevice, WriteDevice};
-use tiny_http_request::request::{Request, StreamedBody, StreamedForm};
+use tiny_http_io::device::WriteDevice;
+use tiny_http_request::any_request::AnyRequest;
+use tiny_http_request::request::{StreamedBody, StreamedForm};
 use tiny_http_response::response::Response;
 
 /// Returns the value of the first `Last-Event-ID` header: the ID of the last event that a client which reconnects has
 /// received (HTML standard, section 9.2.4). Returns `None` if there is none.
-pub fn last_event_id<R: ReadDevice + Drop, W: WriteDevice + Drop, Rt: Wait + Drop>(
-    request: &Request<R, W, Rt>,
-) -> Option<&str>
-    ensures { option_copied result ≡ value_of (codes "Last-Event-ID") (request_head request.now).headers.items }
+pub fn last_event_id<Q: AnyRequest>(request: &Q) -> Option<&str>
+    ensures { option_copied result ≡ value_of (codes "Last-Event-ID") (Q.head request.now).headers.items }
 {
     request.header("Last-Event-ID")
 }
 
-/// Returns the response that `EventStream::respond` begins: a 200 with `Content-Type: text/event-stream` and
+/// Returns the response that `reply_events` begins: a 200 with `Content-Type: text/event-stream` and
 /// `Cache-Control: no-store`. A program may add headers to it. Fails if memory can't be allocated.
 pub fn stream_response(alloc: Global) -> Result<Response<io::Empty>, AllocError>
     ensures { IfOk result (λ r. r.answer ≡ stream_answer) }
@@ -92,36 +89,34 @@ impl<W: Write> EventStream<W> {
 }
 
 impl<W: WriteDevice + Drop, Rt: Wait + Drop> EventStream<StreamedBody<W, Rt>> {
-    /// Begins the response that `stream_response` returns, dated `now`, and sends its head, in the turn of the request.
-    /// Returns `None` if the body mustn't be sent, as after a `HEAD`: then the response is complete. Fails as
-    /// `Request::respond_streaming` does, or if memory can't be allocated.
-    pub fn respond<R: ReadDevice + Drop>(
-        alloc: Global,
-        request: Request<R, W, Rt>,
-        now: HttpDate,
-    ) -> io::Result<Option<EventStream<StreamedBody<W, Rt>>>> {
-        EventStream::respond_with(alloc, request, stream_response(alloc)?, now)
-    }
-
-    /// Begins this response, mostly that of `stream_response` with further headers, as `respond` does.
-    pub fn respond_with<R: ReadDevice + Drop, D: Drop>(
-        alloc: Global,
-        request: Request<R, W, Rt>,
-        response: Response<D>,
-        now: HttpDate,
-    ) -> io::Result<Option<EventStream<StreamedBody<W, Rt>>>> {
-        let mut body = request.respond_streaming(response, now)?;
-        if body.form() == StreamedForm::Absent {
-            body.finish()?;
-            return Ok(None);
-        }
-        body.flush()?;
-        Ok(Some(EventStream::new(alloc, body)))
-    }
-
     /// Ends the body, and with it the turn of the request, as `StreamedBody::finish` does. A browser reconnects after
     /// the end; it doesn't if it gets a 204 then.
     pub fn finish(self) -> io::Result<()> {
         self.into_inner().finish()
     }
+}
+
+/// Begins the response that `stream_response` returns, and sends its head, in the turn of the request. Returns `None` if
+/// the body mustn't be sent, as after a `HEAD`: then the response is complete. Fails as `Request::respond_streaming`
+/// does, or if memory can't be allocated.
+pub fn reply_events<Q: AnyRequest>(
+    request: Q,
+) -> io::Result<Option<EventStream<StreamedBody<Q::Output, Q::Runtime>>>> {
+    let response = stream_response(request.alloc())?;
+    reply_events_with(request, response)
+}
+
+/// Begins this response, mostly that of `stream_response` with further headers, as `reply_events` does.
+pub fn reply_events_with<Q: AnyRequest, D: Drop>(
+    request: Q,
+    response: Response<D>,
+) -> io::Result<Option<EventStream<StreamedBody<Q::Output, Q::Runtime>>>> {
+    let alloc = request.alloc();
+    let mut body = request.reply_streaming(response)?;
+    if body.form() == StreamedForm::Absent {
+        body.finish()?;
+        return Ok(None);
+    }
+    body.flush()?;
+    Ok(Some(EventStream::new(alloc, body)))
 }
