@@ -1,1 +1,2 @@
 pub mod PathsLemmas
+pub mod TagsLemmas

@@ -5,4 +5,5 @@
 
 pub mod dates;
 pub mod paths;
+pub mod tags;
 pub mod types;
