@@ -1,2 +1,3 @@
 pub mod PathsLemmas
 pub mod TagsLemmas
+pub mod RangesLemmas

@@ -1,3 +1,4 @@
 pub mod Paths
 pub mod Dates
 pub mod Tags
+pub mod Ranges

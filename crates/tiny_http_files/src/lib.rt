@@ -5,5 +5,6 @@
 
 pub mod dates;
 pub mod paths;
+pub mod ranges;
 pub mod tags;
 pub mod types;
