@@ -2,3 +2,4 @@ pub mod Paths
 pub mod Dates
 pub mod Tags
 pub mod Ranges
+pub mod Conditions

@@ -3,6 +3,7 @@
 //! standard library.
 #![tactic(auto)]
 
+pub mod conditions;
 pub mod dates;
 pub mod paths;
 pub mod ranges;
