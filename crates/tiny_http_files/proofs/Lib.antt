@@ -1,3 +1,4 @@
 pub mod PathsLemmas
 pub mod TagsLemmas
 pub mod RangesLemmas
+pub mod GrammarLemmas

@@ -38,6 +38,16 @@ spec_cut (Some texts) = spec_between texts.0 texts.1
 abbrev pub spec_of : List ℕ → Option RangeSpec
 spec_of text = spec_cut (cut 45 text)
 
+-- THE GRAMMAR OF A RANGE (section 14.1.1): whether the text spells it
+abbrev pub IsSpec : List ℕ → RangeSpec → Type 0
+IsSpec text (Between first last) =
+    (a : List ℕ) × (b : List ℕ) × (text ≡ a ++ 45 ∷ b)
+    × (position a ≡ Some first)
+    × (position b ≡ Some last)
+    × (first ≤ last)
+IsSpec text (From first) = (a : List ℕ) × (text ≡ a ++ 45 ∷ []) × (position a ≡ Some first)
+IsSpec text (Suffix k) = (b : List ℕ) × (text ≡ 45 ∷ b) × (position b ≡ Some k)
+
 -- WHICH BYTES A RANGE NAMES: whether the byte at position i is one of them, in a representation of n bytes
 abbrev pub IsNamed : ℕ → RangeSpec → ℕ → Type 0
 IsNamed n (Between first last) i = (first ≤ i) × (i ≤ last) × (i < n)

@@ -5,6 +5,8 @@
 
 pub mod conditions;
 pub mod dates;
+pub mod laws;
+pub mod listing;
 pub mod paths;
 pub mod ranges;
 pub mod tags;
