@@ -3,3 +3,4 @@ pub mod Dates
 pub mod Tags
 pub mod Ranges
 pub mod Conditions
+pub mod Listing

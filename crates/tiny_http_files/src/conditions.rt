@@ -1,12 +1,11 @@
 //! Conditional and range requests (RFC 9110, sections 13 and 14.2).
-ghost use Rattle.std.specs.Prelude.{◌≡◌, ℕ, List, Option, IfOk, not};
+ghost use Rattle.std.specs.Prelude.{◌≡◌, ℕ, List, Option, IfOk};
 ghost use Rattle.std.specs.Option.{option_copied};
 ghost use Rattle.tiny_http_files.specs.Conditions.{is_reading, is_matched, is_unmatched, is_unmodified, is_same_date};
 ghost use Rattle.tiny_http_files.specs.Conditions.{is_same_representation, may_continue, unless_current, precondition};
-ghost use Rattle.tiny_http_files.specs.Conditions.{range_in_use, IsSelectedAnswer, IsAnswer};
+ghost use Rattle.tiny_http_files.specs.Conditions.{range_in_use, IsSelectedAnswer, IsAnswer, by_none_match, by_date};
 ghost use Rattle.tiny_http_files.specs.Ranges.{IsSelection};
 ghost use Rattle.tiny_http_files.specs.declared.ranges.RangeSpec.{RangeSpec as Spec};
-ghost use Rattle.tiny_http_files.specs.Dates.{is_not_modified};
 
 use crate::dates::is_not_modified;
 use crate::ranges::{ByteRange, Selection, select};
@@ -138,6 +137,30 @@ fn answer_by(selection: Selection) -> Answer
     }
 }
 
+// Returns the result of an `If-None-Match` that is true or false, for a `GET` or `HEAD` or for another method.
+fn by_none_match(is_reading: bool, is_unmatched: bool) -> Precondition
+    ensures { result ≡ by_none_match is_reading is_unmatched }
+{
+    if is_unmatched {
+        Precondition::Holds
+    } else if is_reading {
+        Precondition::NotModified
+    } else {
+        Precondition::Failed
+    }
+}
+
+// Returns the result of an `If-Modified-Since`, which applies to `GET` and `HEAD` only.
+fn by_date(is_reading: bool, is_current: bool) -> Precondition
+    ensures { result ≡ by_date is_reading is_current }
+{
+    if is_reading && is_current {
+        Precondition::NotModified
+    } else {
+        Precondition::Holds
+    }
+}
+
 impl Conditions<'_> {
     // Returns whether `If-Match` is true or, if there is none, `If-Unmodified-Since`. A field that isn't there is true.
     fn may_continue(&self, representation: &Representation<'_>) -> bool
@@ -157,21 +180,12 @@ impl Conditions<'_> {
     fn unless_current(&self, is_reading: bool, representation: &Representation<'_>) -> Precondition
         ensures { result ≡ unless_current is_reading self.now representation.now }
     {
-        let Some(value) = self.if_none_match else {
-            return if is_reading
-                && is_not_modified(self.if_modified_since, representation.modified)
-            {
-                Precondition::NotModified
-            } else {
-                Precondition::Holds
-            };
-        };
-        if is_unmatched(value, &representation.tag) {
-            Precondition::Holds
-        } else if is_reading {
-            Precondition::NotModified
-        } else {
-            Precondition::Failed
+        match self.if_none_match {
+            Some(value) => by_none_match(is_reading, is_unmatched(value, &representation.tag)),
+            None => by_date(
+                is_reading,
+                is_not_modified(self.if_modified_since, representation.modified),
+            ),
         }
     }
 

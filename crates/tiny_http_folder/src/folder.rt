@@ -48,12 +48,7 @@ impl Folder {
     /// Returns the canonical path of the file or folder that the path of a request names below this folder. Returns
     /// `None` if the path isn't UTF-8 once it is percent-decoded, is unsafe (`below_folder`), names nothing, or leads
     /// out of the folder by a link. Fails if memory can't be allocated.
-    pub fn find<Rt: Disk>(
-        &self,
-        rt: &Rt,
-        alloc: Global,
-        path: &str,
-    ) -> io::Result<Option<String>> {
+    pub fn find<Rt: Disk>(&self, rt: &Rt, alloc: Global, path: &str) -> io::Result<Option<String>> {
         let Ok(decoded) = percent_decode_str(path).decode_utf8(alloc) else {
             return Ok(None);
         };
@@ -72,11 +67,7 @@ impl Folder {
     /// A file is sent as `send_file` does. A folder's response is its `index.html`, or a listing, or if the path has no
     /// slash at its end, a 301 to the path with one. What `find` doesn't find, and what is neither a file nor a folder,
     /// is a 404. Fails as `Request::respond` does, and if memory can't be allocated.
-    pub fn answer<
-        R: ReadDevice + Drop,
-        W: WriteDevice + Drop,
-        Rt: Disk + Clock + Wait + Drop,
-    >(
+    pub fn answer<R: ReadDevice + Drop, W: WriteDevice + Drop, Rt: Disk + Clock + Wait + Drop>(
         &self,
         rt: &Rt,
         alloc: Global,
@@ -97,11 +88,7 @@ impl Folder {
     }
 
     // Answers a request for a folder with this canonical path.
-    fn answer_folder<
-        R: ReadDevice + Drop,
-        W: WriteDevice + Drop,
-        Rt: Disk + Clock + Wait + Drop,
-    >(
+    fn answer_folder<R: ReadDevice + Drop, W: WriteDevice + Drop, Rt: Disk + Clock + Wait + Drop>(
         &self,
         rt: &Rt,
         alloc: Global,
@@ -112,14 +99,25 @@ impl Folder {
             let response = with_slash(alloc, request.path(), request.query())?;
             return request.respond(response, current_date(rt));
         }
-        // The index may be a link that leads out of the folder.
-        let target = format!(in alloc; "{}/index.html", request.path())?;
-        if let Some(index) = self.find(rt, alloc, target.as_str())? {
+        if let Some(index) = self.index_of(rt, alloc, request.path())? {
             return send_file(rt, alloc, request, index.as_str());
         }
         match self.list(rt, alloc, path)? {
             Some(response) => request.respond(response, current_date(rt)),
             None => send_status(rt, alloc, request, 404),
+        }
+    }
+
+    // Returns the path of the file `index.html` in the folder that this path names, if there is one. It may be a link,
+    // but not one that leads out of the folder.
+    fn index_of<Rt: Disk>(&self, rt: &Rt, alloc: Global, path: &str) -> io::Result<Option<String>> {
+        let target = format!(in alloc; "{path}index.html")?;
+        let Some(index) = self.find(rt, alloc, target.as_str())? else {
+            return Ok(None);
+        };
+        match rt.entry(index.as_str()) {
+            Ok(entry) if entry.kind == Kind::File => Ok(Some(index)),
+            _ => Ok(None),
         }
     }
 
@@ -136,7 +134,7 @@ impl Folder {
         let Ok(names) = rt.names_in(alloc, path) else {
             return Ok(None);
         };
-        let page = listing(alloc, names.as_slice())?.into_bytes();
+        let page = listing(alloc, names.as_slice())?;
         let response = Response::from_data(alloc, page);
         let response = response.with(alloc, "Content-Type", "text/html; charset=utf-8")?;
         Ok(Some(response))

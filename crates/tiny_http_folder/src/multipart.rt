@@ -5,8 +5,8 @@ ghost use Rattle.tiny_http_io.specs.Device.{Reads};
 use crate::disk::FilePart;
 use std::alloc::Global;
 use std::fs::File;
-use std::io::Cursor;
 use std::io;
+use std::io::Cursor;
 use tiny_http_files::ranges::{ByteRange, content_range};
 use tiny_http_wire::device::{ReadDevice, read_front};
 

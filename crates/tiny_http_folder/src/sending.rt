@@ -51,11 +51,7 @@ pub(crate) fn send_status<R: ReadDevice + Drop, W: WriteDevice + Drop, Rt: Clock
 }
 
 /// Answers a request whose method isn't `GET` or `HEAD` with a 405 (RFC 9110, section 15.5.6).
-pub(crate) fn refuse_method<
-    R: ReadDevice + Drop,
-    W: WriteDevice + Drop,
-    Rt: Clock + Wait + Drop,
->(
+pub(crate) fn refuse_method<R: ReadDevice + Drop, W: WriteDevice + Drop, Rt: Clock + Wait + Drop>(
     rt: &Rt,
     alloc: Global,
     request: Request<R, W, Rt>,
@@ -165,8 +161,10 @@ impl OpenedFile {
 
     // Makes the 206 with several ranges.
     fn parts(self, ranges: &[ByteRange], boundary: String) -> io::Result<Response<Multipart>> {
-        let content_type =
-            format!(in self.alloc; "multipart/byteranges; boundary={}", boundary.as_str())?;
+        let content_type = format!(in self.alloc;
+            "multipart/byteranges; boundary={}",
+            boundary.as_str()
+        )?;
         let response = self.validated(Response::empty(self.alloc, StatusCode(206)))?;
         let response = response
             .with(self.alloc, "Content-Type", content_type.as_str())?
@@ -242,8 +240,7 @@ pub fn send_file<R: ReadDevice + Drop, W: WriteDevice + Drop, Rt: Disk + Clock +
     };
     let now = current_date(rt);
     let file = OpenedFile::new(alloc, file, entry, type_of(path), now)?;
-    let answer =
-        conditions_of(&request).answer(alloc, request.method(), &file.representation())?;
+    let answer = conditions_of(&request).answer(alloc, request.method(), &file.representation())?;
     match answer {
         Answer::Whole => request.respond(file.whole()?, now),
         Answer::Part(range) => request.respond(file.part(range)?, now),
