@@ -2,3 +2,4 @@ pub mod PathsLemmas
 pub mod TagsLemmas
 pub mod RangesLemmas
 pub mod GrammarLemmas
+pub mod ListingLemmas

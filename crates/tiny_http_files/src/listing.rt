@@ -43,7 +43,8 @@ fn push_line(alloc: Global, html: &mut Vec<u8>, name: &str) -> Result<(), AllocE
     html.extend_from_slice(link.as_bytes())?;
     html.extend_from_slice(b"\">")?;
     push_escaped(html, name.as_bytes())?;
-    html.extend_from_slice(b"</a>\n")
+    html.extend_from_slice(b"</a>\n")?;
+    Ok(())
 }
 
 /// Returns an HTML page in UTF-8 that lists the entries of a folder with these names, each as a link relative to the
