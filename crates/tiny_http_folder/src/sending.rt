@@ -106,12 +106,15 @@ impl OpenedFile {
 
     // Returns what the conditions of a request are compared with.
     fn representation(&self) -> Representation<'_> {
-        let tag = EntityTag::parse(self.tag.as_bytes()).unwrap_or(EntityTag {
-            is_weak: true,
-            opaque: b"",
-        });
+        let opaque = match self.tag.as_bytes() {
+            [b'"', opaque @ .., b'"'] => opaque,
+            tag => tag,
+        };
         Representation {
-            tag,
+            tag: EntityTag {
+                is_weak: false,
+                opaque,
+            },
             modified: self.modified,
             length: self.length,
         }
