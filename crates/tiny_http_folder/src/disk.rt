@@ -1,6 +1,6 @@
 //! The system calls that serving files needs, as a trait that is independent of `Files`: a handler that is generic over
 //! `Files` can't be shared between threads.
-ghost use Rattle.std.specs.Prelude.{◌≡◌, ◌<◌, length, None};
+ghost use Rattle.std.specs.Prelude.{◌≡◌, length, None, Ok};
 ghost use Rattle.tiny_http_io.specs.Device.{Reads};
 
 use std::alloc::{AllocGlobal, Global};

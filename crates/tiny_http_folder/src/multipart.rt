@@ -1,9 +1,9 @@
 //! Several ranges of a file as `multipart/byteranges` (RFC 9110, section 14.6).
-ghost use Rattle.std.specs.Prelude.{◌≡◌, ◌<◌, length, None};
+ghost use Rattle.std.specs.Prelude.{◌≡◌, length, None, Ok};
 ghost use Rattle.tiny_http_io.specs.Device.{Reads};
 
 use crate::disk::FilePart;
-use std::alloc::Global;
+use std::alloc::{AllocError, Global};
 use std::fs::File;
 use std::io;
 use std::io::Cursor;
@@ -27,6 +27,18 @@ pub(crate) struct Multipart {
     part: FilePart,
     // The pieces that follow the current one, the last of them first.
     pieces: Vec<Piece>,
+}
+
+// Returns the text before a range: the boundary, and the headers of the part.
+fn head_of(
+    alloc: Global,
+    boundary: &str,
+    content_type: &str,
+    place: &str,
+) -> Result<String, AllocError> {
+    format!(in alloc;
+        "\r\n--{boundary}\r\nContent-Type: {content_type}\r\nContent-Range: {place}\r\n\r\n"
+    )
 }
 
 /// The texts and pieces of a body that is being put together.
@@ -60,17 +72,13 @@ impl MultipartBuilder {
     ) -> io::Result<()> {
         let before = self.texts.len();
         let place = content_range(self.alloc, range, length)?;
-        for text in [
-            "\r\n--",
+        let text = head_of(
+            self.alloc,
             self.boundary.as_str(),
-            "\r\nContent-Type: ",
             content_type,
-            "\r\nContent-Range: ",
             place.as_str(),
-            "\r\n\r\n",
-        ] {
-            self.texts.push_str(text)?;
-        }
+        )?;
+        self.texts.push_str(text.as_str())?;
         self.push(before, range.start, range.size())
     }
 
