@@ -1,10 +1,21 @@
 #!/usr/bin/env python3
 """The programs of the repository, tried from outside over loopback: run.py NAME=PROGRAM [NAME=PROGRAM..]
 
-NAME is one of the crates example_router, _files, _gateway, _test_server and _websocket_echo, and PROGRAM is the built program. It is called with an address, and with a
+NAME is one of the crates example_router, _files, _events, _gateway, _test_server and _websocket_echo, and PROGRAM is the built program. It is called with an address, and with a
 folder or another server's address where it needs one. Each trial prints one line; all together take a few seconds. `checks/tests` makes the
 same trials of the programs before they are proved."""
-import base64, hashlib, http.client, os, random, re, signal, socket, subprocess, sys, tempfile, threading, time, urllib.parse
+import base64, hashlib, http.client, importlib.util, os, random, re, signal, socket, subprocess, sys, tempfile, threading, time, urllib.parse
+
+
+def beside(name):
+    """A module of this folder, whoever loads this one."""
+    spec = importlib.util.spec_from_file_location(name, os.path.join(os.path.dirname(os.path.realpath(__file__)), name + '.py'))
+    module = importlib.util.module_from_spec(spec)
+    spec.loader.exec_module(module)
+    return module
+
+
+FILES, EVENTS = beside('files'), beside('events')
 
 
 class Trials:
@@ -91,6 +102,7 @@ def make_folder(folder):
         with open(f'{folder}/{name}', 'w') as file:
             file.write(text)
     os.symlink('/etc/passwd', folder + '/out')
+    FILES.make_files(folder)
 
 
 def try_files(port, trials):
@@ -120,7 +132,9 @@ def try_files(port, trials):
     trials.same('each of a file', (answer.status, answer.body), (200, b'b'))
     for path in ['/../served/a.txt', '/%2e%2e/served/a.txt', '/list/..%2fa.txt', '/list/../a.txt', '/out', '/a.txt/', '/%00', '/%ff', '/nothing']:
         trials.same('nothing leads out', (path, ask(port, path).status), (path, 404))
-    trials.same('a method is refused', ask(port, '/a.txt', 'DELETE').status, 405)
+    answer = ask(port, '/a.txt', 'DELETE')
+    trials.same('a method is refused', (answer.status, answer.headers['Allow']), (405, 'GET, HEAD'))
+    FILES.compare(port, free_port(), trials.same)
 
 
 # What the server behind the gateway answers by target: headers and body, and then it closes the connection. Behind it what the gateway answers:
@@ -331,6 +345,7 @@ def none(_folder):
 TRIALS = {
     'example_router': (none, try_router),
     'example_files': (filled(make_folder), try_files),
+    'example_events': (none, lambda port, trials: EVENTS.try_events(port, trials, ask)),
     'example_gateway': (backend_address, try_gateway),
     'example_test_server': (filled(record), try_testserver),
     'example_websocket_echo': (none, try_websocket_echo),

@@ -1,1 +1,5 @@
 pub mod PathsLemmas
+pub mod TagsLemmas
+pub mod RangesLemmas
+pub mod GrammarLemmas
+pub mod ListingLemmas

@@ -1,5 +1,5 @@
 -- Paths within a folder.
-use Rattle.std.specs.Prelude.{ℕ, Bool, not, false, ◌||◌, ◌==◌, List, [], ◌∷◌, ◌++◌, Option, Some, None, codes}
+use Rattle.std.specs.Prelude.{ℕ, Bool, not, false, ◌||◌, ◌==◌, List, [], ◌∷◌, ◌++◌, Option, Some, None, codes, nat_lt}
 use Rattle.std.specs.Prelude.{if◌then◌else◌}
 use Rattle.std.specs.List.{list_any}
 use Rattle.std.specs.Str.{bytes_eq}
@@ -9,9 +9,10 @@ use Rattle.tiny_http_text.specs.Bytes.{parts}
 abbrev pub slash : ℕ
 slash = 47
 
--- whether a byte isn't allowed in a file name: a NUL ends it, and a backslash (92) separates parts on some systems
+-- whether a byte isn't allowed in a file name: a control character (0 to 31, 127), or a backslash (92), which separates
+-- parts on some systems
 abbrev pub is_unsafe_byte : ℕ → Bool
-is_unsafe_byte b = b == 0 || b == 92
+is_unsafe_byte b = nat_lt b 32 || (b == 127 || b == 92)
 
 -- whether a part of a path is the folder itself, its parent, or has a byte that isn't allowed in a file name
 abbrev pub is_unsafe_part : List ℕ → Bool

@@ -1,8 +1,13 @@
-//! Helpers for file servers: whether a path stays within the folder (`paths`), whether the client's copy is current
-//! (`dates`), and the media type of a file (`types`). The crate depends on `tiny_http_text`, `httpdate` and the
-//! standard library.
+//! What serving files needs that doesn't touch files: whether a path stays within the folder (`paths`), how a request
+//! with conditions or ranges is answered (`conditions`, over `tags`, `dates` and `ranges`), the media type of a file
+//! (`types`), and the listing of a folder (`listing`). `tiny_http_folder` serves files with it.
 #![tactic(auto)]
 
+pub mod conditions;
 pub mod dates;
+pub mod laws;
+pub mod listing;
 pub mod paths;
+pub mod ranges;
+pub mod tags;
 pub mod types;

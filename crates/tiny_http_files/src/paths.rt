@@ -6,14 +6,15 @@ ghost use Rattle.tiny_http_files.specs.Paths.{below_folder, is_unsafe_byte, is_u
 
 use std::alloc::{AllocError, Global};
 
-// Returns whether the text contains a NUL or a backslash, which not every system allows in file names.
+// Returns whether the text contains a control character or a backslash. Neither belongs in the name of a served file:
+// not every system allows them, and they break lines of listings and logs.
 fn has_unsafe_byte(text: &[u8]) -> bool
     ensures { result ≡ list_any is_unsafe_byte text.now }
 {
-    text.iter().any(|b| *b == 0 || *b == b'\\')
+    text.iter().any(|b| *b < 32 || *b == 127 || *b == b'\\')
 }
 
-// Returns whether a part of a path is `.` or `..`, or contains a byte that not every system allows in file names.
+// Returns whether a part of a path is `.` or `..`, or contains a control character or a backslash.
 fn is_unsafe_part(part: &str) -> bool
     ensures { result ≡ is_unsafe_part part.now }
 {
@@ -21,7 +22,8 @@ fn is_unsafe_part(part: &str) -> bool
 }
 
 /// Returns whether a path must not be looked up in a folder: one of the parts between its slashes is `..`, which may
-/// lead out of the folder, or `.`, or contains a NUL or a backslash, which not every system allows in file names.
+/// lead out of the folder, or `.`, or contains a backslash or a control character (0 to 31, 127), which not every
+/// system allows in file names.
 ///
 /// `path` must be the request's path (`Request::path`), percent-decoded, so that escaped slashes and dots count.
 /// Symbolic links may also lead out of the folder; if the folder may contain them, check that the real path
