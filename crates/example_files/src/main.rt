@@ -9,9 +9,7 @@ use std::sync::{Arc, Wait};
 use std::time::Clock;
 use std::{env, io};
 use tiny_http::device::{ReadDevice, WriteDevice};
-use tiny_http::{
-    ConfigListenAddr, Handler, Host, Limits, Profile, Request, Server, ServerConfig,
-};
+use tiny_http::{ConfigListenAddr, Handler, Host, Limits, Profile, Request, Server, ServerConfig};
 use tiny_http_folder::Folder;
 use tiny_http_folder::disk::Disk;
 
