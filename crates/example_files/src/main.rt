@@ -5,36 +5,21 @@
 
 use std::alloc::Global;
 use std::io::{ErrorKind, Write};
-use std::sync::{Arc, Wait};
-use std::time::Clock;
+use std::sync::Arc;
 use std::{env, io};
-use tiny_http::device::{ReadDevice, WriteDevice};
-use tiny_http::{Handler, Host, Request, Server, ServerOptions};
+use tiny_http::{Host, Server, ServerOptions};
 use tiny_http_folder::Folder;
 use tiny_http_folder::disk::Disk;
-
-/// The files of a folder, as a handler.
-#[derive(Drop)]
-struct Site(Folder);
-
-impl<R: ReadDevice + Drop, W: WriteDevice + Drop, Rt: Disk + Clock + Wait + Drop> Handler<
-    Rt,
-    Request<R, W, Rt>,
-> for Site {
-    fn handle(&self, rt: &Rt, alloc: Global, request: Request<R, W, Rt>) -> io::Result<()> {
-        self.0.answer(rt, alloc, request)
-    }
-}
 
 // Listens on this address, prints it, and serves the folder.
 fn serve<Rt: Host + Disk, O: Write>(
     rt: Rt,
     alloc: Global,
     address: &str,
-    site: Site,
+    folder: Folder,
     out: &mut O,
 ) -> io::Result<()> {
-    let Ok(handler) = Arc::new(alloc, site) else {
+    let Ok(handler) = Arc::new(alloc, folder) else {
         return Err(ErrorKind::OutOfMemory.into());
     };
     let server = Server::bind(rt, alloc, address, ServerOptions::open_port())?;
@@ -50,6 +35,6 @@ fn main(rt: HostRuntime) -> io::Result<()> {
     let [_, address, folder] = words.as_slice() else {
         return Err(ErrorKind::InvalidInput.into());
     };
-    let site = Site(Folder::open(&rt, alloc, folder.as_str())?);
-    serve(rt, alloc, address.as_str(), site, &mut rt.stdout())
+    let folder = Folder::open(&rt, alloc, folder.as_str())?;
+    serve(rt, alloc, address.as_str(), folder, &mut rt.stdout())
 }

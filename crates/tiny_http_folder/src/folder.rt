@@ -1,21 +1,19 @@
 //! A folder whose files are served.
 use crate::disk::{Disk, Kind};
-use crate::sending::{current_date, is_reading, refuse_method, send_file, send_status};
+use crate::sending::{is_reading, refuse_method, send_file};
 use percent_encoding::percent_decode_str;
 use std::alloc::Global;
 use std::io;
 use std::io::{Cursor, ErrorKind};
 use std::path::Path;
-use std::sync::Wait;
-use std::time::Clock;
+use tiny_http::Handler;
 use tiny_http_files::listing::listing;
 use tiny_http_files::paths::below_folder;
-use tiny_http_request::request::Request;
+use tiny_http_request::any_request::AnyRequest;
 use tiny_http_wire::common::StatusCode;
-use tiny_http_wire::device::{ReadDevice, WriteDevice};
 use tiny_http_wire::response::Response;
 
-/// A folder whose files are served.
+/// A folder whose files are served, as a handler.
 #[derive(Drop)]
 pub struct Folder {
     // The canonical path.
@@ -67,44 +65,39 @@ impl Folder {
     /// A file is sent as `send_file` does. A folder's response is its `index.html`, or a listing, or if the path has no
     /// slash at its end, a 301 to the path with one. What `find` doesn't find, and what is neither a file nor a folder,
     /// is a 404. Fails as `Request::respond` does, and if memory can't be allocated.
-    pub fn answer<R: ReadDevice + Drop, W: WriteDevice + Drop, Rt: Disk + Clock + Wait + Drop>(
-        &self,
-        rt: &Rt,
-        alloc: Global,
-        request: Request<R, W, Rt>,
-    ) -> io::Result<()> {
+    pub fn answer<Rt: Disk, Q: AnyRequest>(&self, rt: &Rt, request: Q) -> io::Result<()> {
         if !is_reading(request.method()) {
-            return refuse_method(rt, alloc, request);
+            return refuse_method(request);
         }
-        let Some(found) = self.find(rt, alloc, request.path())? else {
-            return send_status(rt, alloc, request, 404);
+        let Some(found) = self.find(rt, request.alloc(), request.path())? else {
+            return request.reply_status(StatusCode(404));
         };
         match rt.entry(found.as_str()) {
             Ok(entry) if entry.kind == Kind::Folder => {
-                self.answer_folder(rt, alloc, request, found.as_str())
+                self.answer_folder(rt, request, found.as_str())
             }
-            _ => send_file(rt, alloc, request, found.as_str()),
+            _ => send_file(rt, request, found.as_str()),
         }
     }
 
     // Answers a request for a folder with this canonical path.
-    fn answer_folder<R: ReadDevice + Drop, W: WriteDevice + Drop, Rt: Disk + Clock + Wait + Drop>(
+    fn answer_folder<Rt: Disk, Q: AnyRequest>(
         &self,
         rt: &Rt,
-        alloc: Global,
-        request: Request<R, W, Rt>,
+        request: Q,
         path: &str,
     ) -> io::Result<()> {
+        let alloc = request.alloc();
         if !request.path().ends_with('/') {
             let response = with_slash(alloc, request.path(), request.query())?;
-            return request.respond(response, current_date(rt));
+            return request.reply(response);
         }
         if let Some(index) = self.index_of(rt, alloc, request.path())? {
-            return send_file(rt, alloc, request, index.as_str());
+            return send_file(rt, request, index.as_str());
         }
         match self.list(rt, alloc, path)? {
-            Some(response) => request.respond(response, current_date(rt)),
-            None => send_status(rt, alloc, request, 404),
+            Some(response) => request.reply(response),
+            None => request.reply_status(StatusCode(404)),
         }
     }
 
@@ -138,6 +131,13 @@ impl Folder {
         let response = Response::from_data(alloc, page);
         let response = response.with(alloc, "Content-Type", "text/html; charset=utf-8")?;
         Ok(Some(response))
+    }
+}
+
+impl<Rt: Disk, Q: AnyRequest> Handler<Rt, Q> for Folder {
+    /// Answers the request (`Folder::answer`).
+    fn handle(&self, rt: &Rt, _alloc: Global, request: Q) -> io::Result<()> {
+        self.answer(rt, request)
     }
 }
 

@@ -6,15 +6,14 @@ use std::alloc::Global;
 use std::fs::File;
 use std::io;
 use std::io::{Cursor, Empty};
-use std::sync::Wait;
 use std::time::{Clock, UNIX_EPOCH};
 use tiny_http_files::conditions::{Answer, Conditions, Representation};
 use tiny_http_files::ranges::{ByteRange, content_range, unsatisfied_range};
 use tiny_http_files::tags::{EntityTag, file_tag};
 use tiny_http_files::types::type_of;
-use tiny_http_request::request::Request;
+use tiny_http_request::any_request::AnyRequest;
+use tiny_http_request::date::current_date;
 use tiny_http_wire::common::{Method, StatusCode};
-use tiny_http_wire::device::{ReadDevice, WriteDevice};
 use tiny_http_wire::number::Numeral;
 use tiny_http_wire::response::Response;
 
@@ -34,30 +33,11 @@ fn date_of(seconds: u64) -> HttpDate {
     }
 }
 
-/// Returns the date of the system clock, in whole seconds. Returns second 0 of 1970 if the clock can't be read, or is
-/// before 1970 or after the year 9999.
-pub(crate) fn current_date<Rt: Clock>(rt: &Rt) -> HttpDate {
-    date_of(rt.since_1970().map_or(0, |time| time.as_secs()))
-}
-
-/// Answers a request with this status code, and with its reason phrase as the text.
-pub(crate) fn send_status<R: ReadDevice + Drop, W: WriteDevice + Drop, Rt: Clock + Wait + Drop>(
-    rt: &Rt,
-    alloc: Global,
-    request: Request<R, W, Rt>,
-    code: u16,
-) -> io::Result<()> {
-    request.respond(Response::status(alloc, StatusCode(code))?, current_date(rt))
-}
-
 /// Answers a request whose method isn't `GET` or `HEAD` with a 405 (RFC 9110, section 15.5.6).
-pub(crate) fn refuse_method<R: ReadDevice + Drop, W: WriteDevice + Drop, Rt: Clock + Wait + Drop>(
-    rt: &Rt,
-    alloc: Global,
-    request: Request<R, W, Rt>,
-) -> io::Result<()> {
+pub(crate) fn refuse_method<Q: AnyRequest>(request: Q) -> io::Result<()> {
+    let alloc = request.alloc();
     let answer = Response::status(alloc, StatusCode(405))?.with(alloc, "Allow", "GET, HEAD")?;
-    request.respond(answer, current_date(rt))
+    request.reply(answer)
 }
 
 /// Returns whether the method is `GET` or `HEAD`.
@@ -183,8 +163,9 @@ impl OpenedFile {
 }
 
 // Returns a boundary for a `multipart/byteranges`: the nanoseconds of the clock, which who wrote the file doesn't know.
-fn boundary<Rt: Clock>(rt: &Rt, alloc: Global) -> io::Result<String> {
-    let nanoseconds = match rt.since_1970() {
+fn boundary<Q: AnyRequest>(request: &Q) -> io::Result<String> {
+    let alloc = request.alloc();
+    let nanoseconds = match request.runtime().since_1970() {
         Ok(time) => time
             .as_secs()
             .wrapping_mul(1_000_000_000)
@@ -195,9 +176,7 @@ fn boundary<Rt: Clock>(rt: &Rt, alloc: Global) -> io::Result<String> {
 }
 
 // Returns the values that make a request conditional.
-fn conditions_of<R: ReadDevice + Drop, W: WriteDevice + Drop, Rt: Wait + Drop>(
-    request: &Request<R, W, Rt>,
-) -> Conditions<'_> {
+fn conditions_of<Q: AnyRequest>(request: &Q) -> Conditions<'_> {
     Conditions {
         if_match: request.header("If-Match"),
         if_none_match: request.header("If-None-Match"),
@@ -229,29 +208,31 @@ fn open<Rt: Disk>(rt: &Rt, path: &str) -> Option<(File, Entry)> {
 /// 412 or a 416 (`Conditions::answer`, which sees the first field of each name). It is a 404 if the path isn't that of
 /// a regular file that can be opened, and a 405 for another method. A file that shrinks while it is sent ends the
 /// connection. Fails as `Request::respond` does, and if memory can't be allocated.
-pub fn send_file<R: ReadDevice + Drop, W: WriteDevice + Drop, Rt: Disk + Clock + Wait + Drop>(
-    rt: &Rt,
-    alloc: Global,
-    request: Request<R, W, Rt>,
-    path: &str,
-) -> io::Result<()> {
+pub fn send_file<Rt: Disk, Q: AnyRequest>(rt: &Rt, request: Q, path: &str) -> io::Result<()> {
     if !is_reading(request.method()) {
-        return refuse_method(rt, alloc, request);
+        return refuse_method(request);
     }
     let Some((file, entry)) = open(rt, path) else {
-        return send_status(rt, alloc, request, 404);
+        return request.reply_status(StatusCode(404));
     };
-    let now = current_date(rt);
-    let file = OpenedFile::new(alloc, file, entry, type_of(path), now)?;
+    let alloc = request.alloc();
+    let file = OpenedFile::new(
+        alloc,
+        file,
+        entry,
+        type_of(path),
+        current_date(request.runtime()),
+    )?;
     let answer = conditions_of(&request).answer(alloc, request.method(), &file.representation())?;
     match answer {
-        Answer::Whole => request.respond(file.whole()?, now),
-        Answer::Part(range) => request.respond(file.part(range)?, now),
+        Answer::Whole => request.reply(file.whole()?),
+        Answer::Part(range) => request.reply(file.part(range)?),
         Answer::Parts(ranges) => {
-            request.respond(file.parts(ranges.as_slice(), boundary(rt, alloc)?)?, now)
+            let boundary = boundary(&request)?;
+            request.reply(file.parts(ranges.as_slice(), boundary)?)
         }
-        Answer::NotModified => request.respond(file.not_modified()?, now),
-        Answer::RangeNotSatisfiable => request.respond(file.unsatisfiable()?, now),
-        Answer::PreconditionFailed => send_status(rt, alloc, request, 412),
+        Answer::NotModified => request.reply(file.not_modified()?),
+        Answer::RangeNotSatisfiable => request.reply(file.unsatisfiable()?),
+        Answer::PreconditionFailed => request.reply_status(StatusCode(412)),
     }
 }
