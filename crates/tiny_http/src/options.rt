@@ -1,6 +1,5 @@
 //! The settings by which a server reads requests, and limits its clients.
 ghost use Rattle.std.specs.Prelude.{◌≡◌, None, Some, true, false};
-ghost use Rattle.tiny_http_body.specs.declared.framing.Profile.TheVariants.{Lenient, Standard};
 
 use tiny_http_core::framing::Profile;
 use tiny_http_limits::limits::Limits;
@@ -22,7 +21,7 @@ impl ServerOptions {
     /// Returns the settings for untrusted clients: `Profile::Standard`, `Limits::new()`, and a stale file of a Unix
     /// socket is removed.
     pub fn open_port() -> ServerOptions
-        ensures { (result.profile ≡ Standard) × (result.removes_stale_file ≡ true) }
+        ensures { (result.profile ≡ Profile.Standard) × (result.removes_stale_file ≡ true) }
     {
         ServerOptions {
             profile: Profile::Standard,
@@ -33,7 +32,7 @@ impl ServerOptions {
 
     /// Returns the settings of `Server::http`, which are the Rust crate's: `Profile::Lenient`, and no limits.
     pub fn plain() -> ServerOptions
-        ensures { result ≡ record { profile = Lenient; limits = None; removes_stale_file = false } }
+        ensures { result ≡ record { profile = Profile.Lenient; limits = None; removes_stale_file = false } }
     {
         ServerOptions {
             profile: Profile::Lenient,
