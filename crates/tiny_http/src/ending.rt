@@ -10,7 +10,7 @@ pub(crate) struct Ending {
     is_stopping: AtomicBool,
     // Whether the accepting thread accepts no further client.
     has_accepted_all: AtomicBool,
-    // Whether a call to `Server::stop` has finished its wait.
+    // Whether a call to `Server::stop` has finished its wait, or a `StopHandle` has stopped the server.
     has_stopped: AtomicBool,
 }
 
@@ -35,9 +35,9 @@ impl Ending {
         self.is_closed.load(Ordering::SeqCst)
     }
 
-    /// Records that the server is being stopped. It is called before `close`.
-    pub fn begin_stop(&self) {
-        self.is_stopping.store(true, Ordering::SeqCst);
+    /// Records that the server is being stopped. It is called before `close`. Returns whether this call is the first.
+    pub fn begin_stop(&self) -> bool {
+        !self.is_stopping.swap(true, Ordering::SeqCst)
     }
 
     /// Returns whether the server is being stopped, or was.
@@ -55,12 +55,12 @@ impl Ending {
         self.has_accepted_all.load(Ordering::SeqCst)
     }
 
-    /// Records that a call to `Server::stop` has finished its wait.
+    /// Records that `serve` and each call that waits for a request must return.
     pub fn stop(&self) {
         self.has_stopped.store(true, Ordering::SeqCst);
     }
 
-    /// Returns whether a call to `Server::stop` has finished its wait.
+    /// Returns whether `serve` and each call that waits for a request must return.
     pub fn has_stopped(&self) -> bool {
         self.has_stopped.load(Ordering::SeqCst)
     }

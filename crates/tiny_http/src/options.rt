@@ -1,5 +1,5 @@
 //! The settings by which a server reads requests, and limits its clients.
-ghost use Rattle.std.specs.Prelude.{◌≡◌, None, Some, true, false};
+ghost use Rattle.std.specs.Prelude.{◌≡◌, None, Some, true, false, IsSome};
 
 use tiny_http_core::framing::Profile;
 use tiny_http_limits::limits::Limits;
@@ -21,7 +21,7 @@ impl ServerOptions {
     /// Returns the settings for untrusted clients: `Profile::Standard`, `Limits::new()`, and a stale file of a Unix
     /// socket is removed.
     pub fn open_port() -> ServerOptions
-        ensures { (result.profile ≡ Profile.Standard) × (result.removes_stale_file ≡ true) }
+        ensures { (result.profile ≡ Profile.Standard) × IsSome result.limits × (result.removes_stale_file ≡ true) }
     {
         ServerOptions {
             profile: Profile::Standard,

@@ -565,12 +565,8 @@ impl<R: Net<Listener = TcpListener, Stream = TcpStream> + SocketFiles + Wait + C
     pub fn stop(&self, time: Duration) -> Stopped {
         let begun = time_of(&self.rt);
         let handle = &self.stop_handle;
-        handle.begin_stop();
+        let _ = handle.begin_stop();
         let is_empty = handle.registry.wait_until_empty(&self.rt, begun, time);
-        if !self.queuing.ending.has_accepted_all() {
-            // The earlier attempt, in `end_accepting`, may have failed for lack of a descriptor.
-            handle.connect();
-        }
         handle.end_stop();
         if is_empty {
             return Stopped::Answered;
@@ -598,7 +594,7 @@ impl<R: Net + SocketFiles + Wait + Clock + Drop> Server<R> {
 }
 
 impl<R: Net + SocketFiles + Wait + Clock + Drop> Server<R> {
-    // Returns whether a call to `stop` has finished its wait: everything was answered, or the time had run out.
+    // Returns whether a call to `stop` has finished its wait, or a `StopHandle` has stopped the server.
     pub(crate) fn has_stopped(&self) -> bool {
         self.queuing.ending.has_stopped()
     }

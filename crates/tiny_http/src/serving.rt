@@ -12,8 +12,8 @@ use std::sync::{Arc, Wait};
 use std::time::Clock;
 use std::{io, thread};
 
-/// A handler of requests. `Q` is `ServerRequest<R>`, or any other `Request`, such as one that a test makes. Many
-/// threads may call the handler at once. (The request type is a parameter because no proof can be generated for an
+/// A handler of requests. `Q` is `ServerRequest<R>`, or any other `Request`, such as one that a test makes: a program's
+/// handler takes any `AnyRequest`. Many threads may call the handler at once. (The request type is a parameter because no proof can be generated for an
 /// implementation of a trait that names `ServerRequest` directly.)
 pub trait Handler<R, Q> {
     /// Responds to a request. If the request is dropped without a response, for example because this call fails, it
@@ -31,11 +31,11 @@ pub trait Handler<R, Q> {
     /// What this call writes, up to 16,384 bytes, may be held until it has returned, and so may responses to earlier
     /// requests of the connection. If a handler does more after its response, if the response's data arrives slowly, or
     /// if the handler waits for something else from this client, it should hand the request to another thread and
-    /// return, or take a raw writer and flush it.
+    /// return, or flush: `StreamedBody::flush` and that of a raw writer send at once.
     fn handle(&self, rt: &R, alloc: Global, request: Q) -> io::Result<()>;
 
     /// Is called with the error of each `handle` that fails, on the same worker. Drops the error, unless the handler
-    /// does otherwise, such as printing it.
+    /// does otherwise, such as printing it. What was asked isn't known here: a handler logs that in `handle`.
     fn on_error(&self, _rt: &R, _alloc: Global, _error: io::Error) {}
 }
 

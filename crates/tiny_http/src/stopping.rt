@@ -38,25 +38,32 @@ impl<
 > StopHandle<R> {
     /// Begins to stop the server as `Server::stop` does, but doesn't wait until the open requests are answered: `serve`
     /// and each call that waits for a request return. So a handler may call it, and answers its own request afterwards.
-    /// The thread that called `serve` then calls `Server::stop`, which waits. Only the first call has an effect.
+    /// The thread that called `serve` then calls `Server::stop`, which waits: without that, a program that ends may lose
+    /// responses. Does nothing once the server is being stopped.
     ///
     /// The call takes long if a client doesn't read a 500 that the call sends.
     pub fn stop(&self) {
-        self.begin_stop();
-        self.end_stop();
+        if self.begin_stop() {
+            self.end_stop();
+        }
     }
 
     // Begins to stop the server: no further client is accepted, connections that wait for a head are closed, and what
-    // waits in the queue is dropped.
-    pub(crate) fn begin_stop(&self) {
-        self.queuing.ending.begin_stop();
+    // waits in the queue is dropped. Returns whether this call is the first.
+    pub(crate) fn begin_stop(&self) -> bool {
+        let is_first = self.queuing.ending.begin_stop();
         self.end_accepting();
         self.registry.stop(&self.rt);
         self.queuing.drop_waiting(&self.rt);
+        is_first
     }
 
     // Makes `serve` and each call that waits for a request return.
     pub(crate) fn end_stop(&self) {
+        if !self.queuing.ending.has_accepted_all() {
+            // The earlier attempt, in `end_accepting`, may have failed for lack of a descriptor.
+            self.connect();
+        }
         self.queuing.ending.stop();
         let _ = self.queuing.messages.unblock(&self.rt);
     }
