@@ -561,7 +561,8 @@ impl<R: Net<Listener = TcpListener, Stream = TcpStream> + SocketFiles + Wait + C
     /// The call waits, for at most `time`, until every request that was handed out is answered and every connection is
     /// closed; then `serve` and each call that waits for a request return. A later call to `stop` waits again, for the
     /// connections that are left. If a handler makes this call, the call waits for that handler's own request, too, and
-    /// so takes the whole time: a handler calls `StopHandle::stop`. The call takes longer than `time` if a client doesn't read a 500 that the call sends.
+    /// so takes the whole time: a handler calls `StopHandle::stop`. The call takes longer than `time` if a client
+    /// doesn't read a 500 that the call sends.
     pub fn stop(&self, time: Duration) -> Stopped {
         let begun = time_of(&self.rt);
         let handle = &self.stop_handle;
