@@ -2,8 +2,8 @@
 //!
 //! `GET /` returns the page, `POST /say` adds the message in its body, `GET /events` streams the messages after
 //! `Last-Event-ID` as server-sent events, and `GET /streams` returns how many streams are open. A stream holds its
-//! worker while it lasts; `serve` starts further workers for the other connections. It ends when a write fails, at most
-//! two heartbeats after its client has gone.
+//! worker while it lasts, so only so many may be open; `serve` starts further workers for the other connections. It ends
+//! when a write fails, at most two heartbeats after its client has gone.
 #![tactic(auto)]
 
 mod board;
@@ -23,6 +23,9 @@ use tiny_http_events::stream::{EventStream, last_event_id, reply_events};
 
 // Maximum length of a message in bytes.
 const LONGEST: usize = 4096;
+
+// Maximum number of open streams: half of the workers that `Limits::new` allows.
+const MOST_STREAMS: u64 = 500;
 
 // Seconds without a message after which a stream sends a heartbeat.
 const HEARTBEAT: u64 = 3;
@@ -66,6 +69,9 @@ impl<Rt: Clock + Wait, Q: AnyRequest> Handler<Rt, Q> for Board {
         let mut request = request;
         let answer = match (request.method(), request.path()) {
             (Method::Get | Method::Head, "/events") => {
+                if self.streams.load(SeqCst) >= MOST_STREAMS {
+                    return request.reply_status(StatusCode(503));
+                }
                 let last_id = last_event_id(&request).and_then(|id| id.parse::<usize>().ok());
                 let Some(mut stream) = reply_events(request)? else {
                     return Ok(());

@@ -1,6 +1,4 @@
 //! Serves the files of a folder: `example_files ADDRESS FOLDER`, as `Folder::answer` of `tiny_http_folder` describes.
-//!
-//! If memory can't be allocated, the response is a 404, or the empty 500 of a dropped request.
 #![tactic(auto)]
 
 use std::alloc::Global;
@@ -35,6 +33,6 @@ fn main(rt: HostRuntime) -> io::Result<()> {
     let [_, address, folder] = words.as_slice() else {
         return Err(ErrorKind::InvalidInput.into());
     };
-    let folder = Folder::open(&rt, alloc, folder.as_str())?;
+    let folder = Folder::open(&rt, alloc, folder.as_str())?.with_listings();
     serve(rt, alloc, address.as_str(), folder, &mut rt.stdout())
 }

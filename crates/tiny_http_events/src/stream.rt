@@ -1,7 +1,8 @@
 //! Streams of events: the response, and the writer of its body.
-ghost use Rattle.std.specs.Prelude.{◌≡◌, codes, IfOk};
+ghost use Rattle.std.specs.Prelude.{◌≡◌, codes, IfOk, OnOk};
 ghost use Rattle.std.specs.Option.{option_copied};
 ghost use Rattle.tiny_http_body.specs.Framing.{value_of};
+ghost use Rattle.tiny_http_events.specs.Events.{event_text, comment_text};
 ghost use Rattle.tiny_http_events.specs.Responses.{stream_answer};
 
 use crate::event::{Event, append_comment};
@@ -37,6 +38,22 @@ pub fn stream_response(alloc: Global) -> Result<Response<io::Empty>, AllocError>
         .map_err(|_| AllocError)
 }
 
+// Replaces a text by that of an event. Fails if memory can't be allocated.
+fn replace_by_event(text: &mut Vec<u8>, event: &Event) -> Result<(), AllocError>
+    ensures { OnOk result (text.new.items ≡ event_text event.now) }
+{
+    text.clear();
+    event.append_to(text)
+}
+
+// Replaces a text by that of a comment. Fails if memory can't be allocated.
+fn replace_by_comment(text: &mut Vec<u8>, comment: &str) -> Result<(), AllocError>
+    ensures { OnOk result (text.new.items ≡ comment_text comment.now) }
+{
+    text.clear();
+    append_comment(comment, text)
+}
+
 /// A writer of events and comments, mostly over the body of a response that grows while it is sent. Each call sends
 /// what it writes. It keeps the memory of its longest text for the next.
 ///
@@ -67,16 +84,14 @@ impl<W: Write> EventStream<W> {
     /// Writes the event and flushes the writer. Fails with the writer's fault, or if memory can't be allocated; in that
     /// case nothing is written.
     pub fn send(&mut self, event: &Event) -> io::Result<()> {
-        self.text.clear();
-        event.append_to(&mut self.text)?;
+        replace_by_event(&mut self.text, event)?;
         self.put()
     }
 
     /// Writes a comment, which the browser ignores, and flushes the writer. A comment with empty text is a heartbeat.
     /// Fails as `send` does.
     pub fn comment(&mut self, comment: &str) -> io::Result<()> {
-        self.text.clear();
-        append_comment(comment, &mut self.text)?;
+        replace_by_comment(&mut self.text, comment)?;
         self.put()
     }
 

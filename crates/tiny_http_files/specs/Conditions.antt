@@ -49,9 +49,11 @@ is_that_second modified (Some date) = modified == date
 abbrev pub is_same_date : List ℕ → HttpDate → Bool
 is_same_date value modified = is_that_second (unix_secs modified) (parse_secs value)
 
--- whether If-Range is true: it is the tag, by strong comparison, or the date (section 13.1.5)
+-- Whether If-Range is true: it is the tag, by strong comparison, or the date, which is a strong validator only if the
+-- tag is one, too (sections 13.1.5 and 8.8.2.2).
 abbrev pub is_same_representation : List ℕ → Representation → Bool
-is_same_representation value r = is_match Strong r.tag.is_weak r.tag.opaque.now value || is_same_date value r.modified
+is_same_representation value r =
+    is_match Strong r.tag.is_weak r.tag.opaque.now value || (not r.tag.is_weak && is_same_date value r.modified)
 
 -- steps 1 and 2 of section 13.2.2, by If-Match and If-Unmodified-Since; `None` is a field that isn't there
 abbrev pub by_match : Option (List ℕ) → Option (List ℕ) → Representation → Bool

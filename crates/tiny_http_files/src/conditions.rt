@@ -112,14 +112,14 @@ fn is_same_date(value: &str, modified: HttpDate) -> bool
     }
 }
 
-// Returns whether an `If-Range` is true: it is the tag, by strong comparison, or the date.
+// Returns whether an `If-Range` is true: it is the tag, by strong comparison, or, if the tag is strong, the date.
 fn is_same_representation(value: &str, representation: &Representation<'_>) -> bool
     ensures { result ≡ is_same_representation value.now representation.now }
 {
     representation
         .tag
         .is_match(value.as_bytes(), Comparison::Strong)
-        || is_same_date(value, representation.modified)
+        || (!representation.tag.is_weak && is_same_date(value, representation.modified))
 }
 
 // Returns the answer to a request whose preconditions hold.

@@ -104,7 +104,7 @@ impl RangeSpec {
     }
 
     /// Parses an element of a `Range` field, without white space around it. Returns `None` for any other text, and if
-    /// the last position is before the first (RFC 9110, section 14.1.1).
+    /// the last position is before the first (RFC 9110, section 14.1.1). A number above 2^64 - 1 counts as that.
     pub fn parse(element: &[u8]) -> Option<RangeSpec>
         ensures { result ≡ spec_of element.now }
     {

@@ -117,8 +117,8 @@ pub fn is_any_tag(value: &str) -> bool
 }
 
 /// Returns the entity tag that a server gives to a file, with its quotes: the modification time in seconds since 1970,
-/// a hyphen and the length in bytes, both in hexadecimal (as nginx does). It is strong. Fails if memory can't be
-/// allocated.
+/// a hyphen and the length in bytes, both in hexadecimal (as nginx does). Such a tag is strong only once the file can't
+/// change again within that second: until then send it as a weak one. Fails if memory can't be allocated.
 pub fn file_tag(alloc: Global, modified: u64, length: u64) -> Result<String, AllocError>
     ensures { IfOk result (λ tag. string_bytes tag ≡ file_tag modified length) }
 {

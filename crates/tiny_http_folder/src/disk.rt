@@ -60,10 +60,12 @@ pub trait Disk {
     /// Returns what is known of the entry with this path, following links. Fails if there is no such entry.
     fn entry(&self, path: &str) -> io::Result<Entry>;
 
-    /// Returns the canonical path, with links resolved, or `None` if it isn't UTF-8. Fails if there is no such entry.
-    fn real_path(&self, alloc: Global, path: &str) -> io::Result<Option<String>>;
+    /// Returns the canonical path, with links resolved. Fails if there is no such entry, and with `InvalidData` if the
+    /// path isn't UTF-8.
+    fn real_path(&self, alloc: Global, path: &str) -> io::Result<String>;
 
     /// Returns the names of a folder's entries, sorted. Skips entries that can't be read or whose names aren't UTF-8.
+    /// Fails if the folder can't be read, or memory can't be allocated.
     fn names_in(&self, alloc: Global, path: &str) -> io::Result<Vec<String>>;
 }
 
@@ -78,19 +80,21 @@ impl<R: Files<File = File> + AllocGlobal + Copy> Disk for R {
         Ok(Entry::of(&fs::metadata(self, path)?))
     }
 
-    fn real_path(&self, alloc: Global, path: &str) -> io::Result<Option<String>> {
+    fn real_path(&self, alloc: Global, path: &str) -> io::Result<String> {
         let real = fs::canonicalize(self, path)?;
         match real.as_path().to_str() {
-            Some(text) => Ok(Some(String::from_str(alloc, text)?)),
-            None => Ok(None),
+            Some(text) => Ok(String::from_str(alloc, text)?),
+            None => Err(ErrorKind::InvalidData.into()),
         }
     }
 
     fn names_in(&self, alloc: Global, path: &str) -> io::Result<Vec<String>> {
         let mut names = Vec::new(alloc);
         for entry in fs::read_dir(self, path)? {
-            if let Ok(entry) = entry {
-                names.push(String::from_str(alloc, entry.file_name())?)?;
+            match entry {
+                Ok(entry) => names.push(String::from_str(alloc, entry.file_name())?)?,
+                Err(fault) if fault.kind() == ErrorKind::OutOfMemory => return Err(fault),
+                Err(_) => {}
             }
         }
         names.sort()?;
@@ -98,7 +102,7 @@ impl<R: Files<File = File> + AllocGlobal + Copy> Disk for R {
     }
 }
 
-/// A part of an open file, as the data of a response. A file that has become shorter ends early.
+/// A part of an open file, as the data of a response.
 #[derive(Drop)]
 pub struct FilePart {
     file: File,
@@ -129,7 +133,7 @@ impl FilePart {
 }
 
 impl ReadDevice for FilePart {
-    /// Reads once, at the current position.
+    /// Reads once, at the current position. Fails with `UnexpectedEof` if the file has become shorter than the part.
     fn read_in(&mut self, buf: &mut [u8]) -> Result<usize, io::Error>
         ensures reads { Reads None None result buf.new }
         ensures empty { length buf.new ≡ 0 → (result ≡ Ok 0) × (self.new ≡ self.old) }
@@ -139,6 +143,9 @@ impl ReadDevice for FilePart {
             return Ok(0);
         }
         let n = self.file.read_at(&mut buf[..most], self.position)?;
+        if n == 0 {
+            return Err(ErrorKind::UnexpectedEof.into());
+        }
         self.position = self.position.saturating_add(n as u64);
         self.left = self.left.saturating_sub(n as u64);
         Ok(n)

@@ -9,4 +9,4 @@ mod multipart;
 pub mod sending;
 
 pub use crate::folder::Folder;
-pub use crate::sending::send_file;
+pub use crate::sending::{send_file, send_file_as};

@@ -1,5 +1,6 @@
 //! Responses with a file, and those that say why there is none.
 use crate::disk::{Disk, Entry, FilePart, Kind};
+use crate::folder::found;
 use crate::multipart::{Multipart, MultipartBuilder};
 use httpdate::HttpDate;
 use std::alloc::Global;
@@ -52,6 +53,8 @@ struct OpenedFile {
     file: File,
     length: u64,
     tag: String,
+    // Whether the file may change once more within the second of its modification time.
+    is_fresh: bool,
     modified: HttpDate,
     date: String,
     content_type: &'static str,
@@ -73,11 +76,13 @@ impl OpenedFile {
         // `Last-Modified` is never later than `Date` (RFC 9110, section 8.8.2.1).
         let modified = date_of(seconds);
         let modified = if modified > now { now } else { modified };
+        let is_fresh = modified.unix_secs().saturating_add(1) >= now.unix_secs();
         Ok(OpenedFile {
             alloc,
             file,
             length: entry.length,
             tag: file_tag(alloc, seconds, entry.length)?,
+            is_fresh,
             modified,
             date: format!(in alloc; "{modified}")?,
             content_type,
@@ -92,7 +97,7 @@ impl OpenedFile {
         };
         Representation {
             tag: EntityTag {
-                is_weak: false,
+                is_weak: self.is_fresh,
                 opaque,
             },
             modified: self.modified,
@@ -103,6 +108,10 @@ impl OpenedFile {
     // Adds the headers by which the client's next request is conditional.
     fn validated<D: Drop>(&self, response: Response<D>) -> io::Result<Response<D>> {
         let response = response.with(self.alloc, "Last-Modified", self.date.as_str())?;
+        if self.is_fresh {
+            let tag = format!(in self.alloc; "W/{}", self.tag.as_str())?;
+            return Ok(response.with(self.alloc, "ETag", tag.as_str())?);
+        }
         Ok(response.with(self.alloc, "ETag", self.tag.as_str())?)
     }
 
@@ -118,7 +127,7 @@ impl OpenedFile {
         Ok(response.with(self.alloc, "Content-Range", place.as_str())?)
     }
 
-    // Makes the 200. The file is sent with its length, and never in chunks.
+    // Makes the 200. The file is sent with its length, unless the request's `TE` asks for chunks.
     fn whole(self) -> io::Result<Response<FilePart>> {
         let response = self.validated(Response::empty(self.alloc, StatusCode(200)))?;
         let response = response
@@ -163,16 +172,18 @@ impl OpenedFile {
 }
 
 // Returns a boundary for a `multipart/byteranges`: the nanoseconds of the clock, which who wrote the file doesn't know.
-fn boundary<Q: AnyRequest>(request: &Q) -> io::Result<String> {
+// Returns `None` if the clock can't be read.
+fn boundary<Q: AnyRequest>(request: &Q) -> io::Result<Option<String>> {
     let alloc = request.alloc();
-    let nanoseconds = match request.runtime().since_1970() {
-        Ok(time) => time
-            .as_secs()
-            .wrapping_mul(1_000_000_000)
-            .wrapping_add(time.subsec_nanos().into()),
-        Err(_) => 0,
+    let Ok(time) = request.runtime().since_1970() else {
+        return Ok(None);
     };
-    Ok(format!(in alloc; "part-{}", Numeral::hexadecimal(nanoseconds).as_str())?)
+    let nanoseconds = time
+        .as_secs()
+        .wrapping_mul(1_000_000_000)
+        .wrapping_add(time.subsec_nanos().into());
+    let boundary = format!(in alloc; "part-{}", Numeral::hexadecimal(nanoseconds).as_str())?;
+    Ok(Some(boundary))
 }
 
 // Returns the values that make a request conditional.
@@ -187,50 +198,58 @@ fn conditions_of<Q: AnyRequest>(request: &Q) -> Conditions<'_> {
     }
 }
 
-// Opens a regular file. Returns `None` if there is none with this path, or it can't be opened.
-fn open<Rt: Disk>(rt: &Rt, path: &str) -> Option<(File, Entry)> {
+// Opens a regular file. Returns `None` if there is none with this path, or it mayn't be read.
+fn open<Rt: Disk>(rt: &Rt, path: &str) -> io::Result<Option<(File, Entry)>> {
     // Opening a pipe may block forever.
-    if rt.entry(path).ok()?.kind != Kind::File {
-        return None;
+    match found(rt.entry(path))? {
+        Some(entry) if entry.kind == Kind::File => {}
+        _ => return Ok(None),
     }
-    let (file, entry) = rt.open_file(path).ok()?;
-    if entry.kind == Kind::File {
-        Some((file, entry))
-    } else {
-        None
+    match found(rt.open_file(path))? {
+        Some((file, entry)) if entry.kind == Kind::File => Ok(Some((file, entry))),
+        _ => Ok(None),
     }
 }
 
 /// Answers a `GET` or `HEAD` with the file at this path, whatever the path of the request, with the media type of its
-/// name (`type_of`).
+/// name (`type_of`). See `send_file_as`.
+pub fn send_file<Rt: Disk, Q: AnyRequest>(rt: &Rt, request: Q, path: &str) -> io::Result<()> {
+    send_file_as(rt, request, path, type_of(path))
+}
+
+/// Answers a `GET` or `HEAD` with the file at this path, as this media type.
 ///
 /// The response is a 200, a 206 for `Range` (RFC 9110, section 14.2), or as the conditions of the request ask a 304, a
 /// 412 or a 416 (`Conditions::answer`, which sees the first field of each name). It is a 404 if the path isn't that of
-/// a regular file that can be opened, and a 405 for another method. A file that shrinks while it is sent ends the
-/// connection. Fails as `Request::respond` does, and if memory can't be allocated.
-pub fn send_file<Rt: Disk, Q: AnyRequest>(rt: &Rt, request: Q, path: &str) -> io::Result<()> {
+/// a regular file that may be read, and a 405 for another method. A file that was modified in this second or the one
+/// before has a weak tag, since it may change again within that second; then `If-Range` doesn't hold.
+///
+/// A file that shrinks while it is sent ends the connection. Fails as `Request::respond` does, with `UnexpectedEof` for
+/// such a file, if memory can't be allocated, and with a fault of the system that may pass, such as a lack of
+/// descriptors.
+pub fn send_file_as<Rt: Disk, Q: AnyRequest>(
+    rt: &Rt,
+    request: Q,
+    path: &str,
+    content_type: &'static str,
+) -> io::Result<()> {
     if !is_reading(request.method()) {
         return refuse_method(request);
     }
-    let Some((file, entry)) = open(rt, path) else {
+    let Some((file, entry)) = open(rt, path)? else {
         return request.reply_status(StatusCode(404));
     };
     let alloc = request.alloc();
-    let file = OpenedFile::new(
-        alloc,
-        file,
-        entry,
-        type_of(path),
-        current_date(request.runtime()),
-    )?;
+    let now = current_date(request.runtime());
+    let file = OpenedFile::new(alloc, file, entry, content_type, now)?;
     let answer = conditions_of(&request).answer(alloc, request.method(), &file.representation())?;
     match answer {
         Answer::Whole => request.reply(file.whole()?),
         Answer::Part(range) => request.reply(file.part(range)?),
-        Answer::Parts(ranges) => {
-            let boundary = boundary(&request)?;
-            request.reply(file.parts(ranges.as_slice(), boundary)?)
-        }
+        Answer::Parts(ranges) => match boundary(&request)? {
+            Some(boundary) => request.reply(file.parts(ranges.as_slice(), boundary)?),
+            None => request.reply(file.whole()?),
+        },
         Answer::NotModified => request.reply(file.not_modified()?),
         Answer::RangeNotSatisfiable => request.reply(file.unsatisfiable()?),
         Answer::PreconditionFailed => request.reply_status(StatusCode(412)),
