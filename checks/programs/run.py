@@ -97,11 +97,13 @@ def try_router(port, trials):
 def make_folder(folder):
     os.makedirs(folder + '/a.b')
     os.makedirs(folder + '/list')
+    os.makedirs(folder + '/.well-known')
     for name, text in [('a.txt', 'hello'), ('a.png', ''), ('a.HTML', ''), ('png', ''), ('big.bin', 'x' * 100_000), ('a.b/index.html', '<p>hi'),
-                       ('list/b <c>&".txt', 'b')]:
+                       ('list/b <c>&".txt', 'b'), ('.env', 'hidden'), ('list/.env', 'hidden'), ('.well-known/a.txt', 'known')]:
         with open(f'{folder}/{name}', 'w') as file:
             file.write(text)
     os.symlink('/etc/passwd', folder + '/out')
+    os.symlink('png', folder + '/link.html')
     FILES.make_files(folder)
 
 
@@ -132,6 +134,9 @@ def try_files(port, trials):
     trials.same('each of a file', (answer.status, answer.body), (200, b'b'))
     for path in ['/../served/a.txt', '/%2e%2e/served/a.txt', '/list/..%2fa.txt', '/list/../a.txt', '/out', '/a.txt/', '/%00', '/%ff', '/nothing']:
         trials.same('nothing leads out', (path, ask(port, path).status), (path, 404))
+    for path, wanted in [('/.env', 404), ('/list/.env', 404), ('/%2eenv', 404), ('/.well-known/a.txt', 200), ('/list?a=1', 301)]:
+        trials.same('what is hidden, and what is not', (path, ask(port, path).status), (path, wanted))
+    trials.same('the type is that of the name', ask(port, '/link.html').headers['Content-Type'], 'text/html; charset=utf-8')
     answer = ask(port, '/a.txt', 'DELETE')
     trials.same('a method is refused', (answer.status, answer.headers['Allow']), (405, 'GET, HEAD'))
     FILES.compare(port, free_port(), trials.same)
