@@ -84,7 +84,7 @@ impl Folder {
         let Some(joined) = below_folder(alloc, self.path.as_str(), decoded.as_str())? else {
             return Ok(None);
         };
-        let Some(path) = found(rt.real_path(alloc, joined.as_str()))? else {
+        let Some(path) = unless_absent(rt.real_path(alloc, joined.as_str()))? else {
             return Ok(None);
         };
         if !Path::new(path.as_str()).starts_with(self.path.as_str()) {
@@ -159,7 +159,7 @@ impl Folder {
         if !self.has_listings {
             return Ok(None);
         }
-        let Some(mut names) = found(rt.names_in(alloc, path))? else {
+        let Some(mut names) = unless_absent(rt.names_in(alloc, path))? else {
             return Ok(None);
         };
         names.retain(|name| !self.hides(name.as_str()));
@@ -204,7 +204,7 @@ fn with_slash(
 
 /// Returns what was found, or `None` if a fault says that nothing is there, or nothing that may be read. Fails with any
 /// other fault.
-pub(crate) fn found<T>(outcome: io::Result<T>) -> io::Result<Option<T>> {
+pub(crate) fn unless_absent<T>(outcome: io::Result<T>) -> io::Result<Option<T>> {
     match outcome {
         Ok(item) => Ok(Some(item)),
         Err(fault) => match fault.kind() {

@@ -1,6 +1,6 @@
 //! Responses with a file, and those that say why there is none.
 use crate::disk::{Disk, Entry, FilePart, Kind};
-use crate::folder::found;
+use crate::folder::unless_absent;
 use crate::multipart::{Multipart, MultipartBuilder};
 use httpdate::HttpDate;
 use std::alloc::Global;
@@ -201,11 +201,11 @@ fn conditions_of<Q: AnyRequest>(request: &Q) -> Conditions<'_> {
 // Opens a regular file. Returns `None` if there is none with this path, or it mayn't be read.
 fn open<Rt: Disk>(rt: &Rt, path: &str) -> io::Result<Option<(File, Entry)>> {
     // Opening a pipe may block forever.
-    match found(rt.entry(path))? {
+    match unless_absent(rt.entry(path))? {
         Some(entry) if entry.kind == Kind::File => {}
         _ => return Ok(None),
     }
-    match found(rt.open_file(path))? {
+    match unless_absent(rt.open_file(path))? {
         Some((file, entry)) if entry.kind == Kind::File => Ok(Some((file, entry))),
         _ => Ok(None),
     }
