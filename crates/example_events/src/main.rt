@@ -15,8 +15,10 @@ use std::sync::atomic::Ordering::SeqCst;
 use std::sync::{Arc, Wait};
 use std::time::{Clock, Duration};
 use std::{env, io};
+use tiny_http::device::{ReadDevice, WriteDevice};
 use tiny_http::{
-    AnyRequest, BodyError, Handler, Method, Response, Server, ServerOptions, StatusCode,
+    AnyRequest, BodyError, Handler, Host, Method, Request, Response, Server, ServerOptions,
+    StatusCode,
 };
 use tiny_http_events::event::Event;
 use tiny_http_events::stream::{EventStream, last_event_id, reply_events};
@@ -63,9 +65,10 @@ impl Board {
     }
 }
 
-impl<Rt: Clock + Wait, Q: AnyRequest> Handler<Rt, Q> for Board {
+impl<R: ReadDevice + Drop, W: WriteDevice + Drop, Rt: Host> Handler<Rt, Request<R, W, Rt>>
+    for Board {
     /// Answers a request by its method and path.
-    fn handle(&self, rt: &Rt, alloc: Global, request: Q) -> io::Result<()> {
+    fn handle(&self, rt: &Rt, alloc: Global, request: Request<R, W, Rt>) -> io::Result<()> {
         let mut request = request;
         let answer = match (request.method(), request.path()) {
             (Method::Get | Method::Head, "/events") => {

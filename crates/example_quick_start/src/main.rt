@@ -8,15 +8,17 @@ use std::alloc::Global;
 use std::io::ErrorKind;
 use std::sync::Arc;
 use std::{env, io};
-use tiny_http::{AnyRequest, Handler, Response, Server, ServerOptions};
+use tiny_http::device::{ReadDevice, WriteDevice};
+use tiny_http::{AnyRequest, Handler, Host, Request, Response, Server, ServerOptions};
 
 /// A handler that answers a request with its path. The request may come from a server or a test.
 #[derive(Drop)]
 struct ByPath;
 
-impl<Rt, Q: AnyRequest> Handler<Rt, Q> for ByPath {
+impl<R: ReadDevice + Drop, W: WriteDevice + Drop, Rt: Host> Handler<Rt, Request<R, W, Rt>>
+    for ByPath {
     /// Sends the path as the response's body.
-    fn handle(&self, _rt: &Rt, alloc: Global, request: Q) -> io::Result<()> {
+    fn handle(&self, _rt: &Rt, alloc: Global, request: Request<R, W, Rt>) -> io::Result<()> {
         let path = String::from_str(alloc, request.path())?;
         request.reply(Response::from_string(alloc, path)?)
     }

@@ -15,9 +15,12 @@ use crate::notes::{Notebook, fault};
 use std::alloc::Global;
 use std::io::{ErrorKind, Write};
 use std::sync::{Arc, Wait};
+use std::time::Clock;
 use std::{env, io};
+use tiny_http::device::{ReadDevice, WriteDevice};
 use tiny_http::{
-    AnyRequest, BodyError, Handler, Host, Method, Response, Server, ServerOptions, StatusCode,
+    AnyRequest, BodyError, Handler, Host, Method, Request, Response, Server, ServerOptions,
+    StatusCode,
 };
 
 // Maximum length of a body in bytes.
@@ -44,9 +47,12 @@ impl Notebook {
     }
 }
 
-impl<Rt: Wait, Q: AnyRequest> Handler<Rt, Q> for Notebook {
+impl<R: ReadDevice + Drop, W: WriteDevice + Drop, Rt: Clock + Wait + Drop> Handler<
+    Rt,
+    Request<R, W, Rt>,
+> for Notebook {
     /// Answers a request for the notes or the events.
-    fn handle(&self, rt: &Rt, alloc: Global, request: Q) -> io::Result<()> {
+    fn handle(&self, rt: &Rt, alloc: Global, request: Request<R, W, Rt>) -> io::Result<()> {
         let mut request = request;
         let is_read = matches!(request.method(), Method::Get | Method::Head);
         if is_read && request.path() == "/events" {

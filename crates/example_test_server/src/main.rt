@@ -18,11 +18,11 @@ use std::time::Clock;
 use std::{env, fs, io};
 use tiny_http::answer::read_answer;
 use tiny_http::client::ClientConnection;
-use tiny_http::device::Canned;
+use tiny_http::device::{Canned, ReadDevice, WriteDevice};
 use tiny_http::test::Nowhere;
 use tiny_http::{
-    AnyRequest, Handler, Host, Method, Profile, Response, Server, ServerOptions, StatusCode,
-    current_date,
+    AnyRequest, Handler, Host, Method, Profile, Request, Response, Server, ServerOptions,
+    StatusCode, current_date,
 };
 
 // Number of threads that answer.
@@ -140,9 +140,12 @@ impl Recorded {
     }
 }
 
-impl<Rt: Wait, Q: AnyRequest> Handler<Rt, Q> for Recorded {
+impl<R: ReadDevice + Drop, W: WriteDevice + Drop, Rt: Clock + Wait + Drop> Handler<
+    Rt,
+    Request<R, W, Rt>,
+> for Recorded {
     /// Sends the recorded response to a request, the names for `GET /unused`, or an error.
-    fn handle(&self, rt: &Rt, alloc: Global, request: Q) -> io::Result<()> {
+    fn handle(&self, rt: &Rt, alloc: Global, request: Request<R, W, Rt>) -> io::Result<()> {
         let mut request = request;
         let Ok(asked) = asked_of(alloc, &mut request) else {
             return request.reply_status(StatusCode(413));

@@ -6,12 +6,16 @@ use std::alloc::Global;
 use std::io;
 use std::io::{Cursor, ErrorKind};
 use std::path::Path;
+use std::sync::Wait;
+use std::time::Clock;
 use tiny_http::Handler;
 use tiny_http_files::listing::listing;
 use tiny_http_files::paths::below_folder;
 use tiny_http_files::types::type_of;
 use tiny_http_request::any_request::AnyRequest;
+use tiny_http_request::request::Request;
 use tiny_http_wire::common::{ParseError, StatusCode};
+use tiny_http_wire::device::{ReadDevice, WriteDevice};
 use tiny_http_wire::response::Response;
 
 /// A folder whose files are served, as a handler. Names that begin with a dot aren't found, but `.well-known` is (RFC
@@ -170,9 +174,12 @@ impl Folder {
     }
 }
 
-impl<Rt: Disk, Q: AnyRequest> Handler<Rt, Q> for Folder {
+impl<R: ReadDevice + Drop, W: WriteDevice + Drop, Rt: Disk + Clock + Wait + Drop> Handler<
+    Rt,
+    Request<R, W, Rt>,
+> for Folder {
     /// Answers the request (`Folder::answer`).
-    fn handle(&self, rt: &Rt, _alloc: Global, request: Q) -> io::Result<()> {
+    fn handle(&self, rt: &Rt, _alloc: Global, request: Request<R, W, Rt>) -> io::Result<()> {
         self.answer(rt, request)
     }
 }
