@@ -100,6 +100,9 @@ impl<R: ReadDevice + Drop, W: WriteDevice + Drop, Rt: Host> Handler<Rt, Request<
         };
         request.reply(answer)
     }
+
+    /// Drops the error.
+    fn on_error(&self, _rt: &Rt, _alloc: Global, _error: io::Error) {}
 }
 
 fn main(rt: HostRuntime) -> io::Result<()> {

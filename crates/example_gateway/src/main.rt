@@ -152,6 +152,9 @@ where
         let answer = answer_with(head, Metered::new(data), alloc, Some(length))?;
         request.respond(answer.with_chunked_threshold(usize::MAX), current_date(rt))
     }
+
+    /// Drops the error.
+    fn on_error(&self, _rt: &Rt, _alloc: Global, _error: io::Error) {}
 }
 
 // Listens on this address, prints it, and serves the gateway.

@@ -22,6 +22,9 @@ impl<R: ReadDevice + Drop, W: WriteDevice + Drop, Rt: Host> Handler<Rt, Request<
         let path = String::from_str(alloc, request.path())?;
         request.reply(Response::from_string(alloc, path)?)
     }
+
+    /// Drops the error.
+    fn on_error(&self, _rt: &Rt, _alloc: Global, _error: io::Error) {}
 }
 
 fn main(rt: HostRuntime) -> io::Result<()> {

@@ -168,6 +168,9 @@ impl<R: ReadDevice + Drop, W: WriteDevice + Drop, Rt: Clock + Wait + Drop> Handl
         }
         request.reply_status(StatusCode(501))
     }
+
+    /// Drops the error.
+    fn on_error(&self, _rt: &Rt, _alloc: Global, _error: io::Error) {}
 }
 
 // Listens on this address, prints it, and sends the recorded responses.

@@ -182,6 +182,9 @@ impl<R: ReadDevice + Drop, W: WriteDevice + Drop, Rt: Disk + Clock + Wait + Drop
     fn handle(&self, rt: &Rt, _alloc: Global, request: Request<R, W, Rt>) -> io::Result<()> {
         self.answer(rt, request)
     }
+
+    /// Drops the error.
+    fn on_error(&self, _rt: &Rt, _alloc: Global, _error: io::Error) {}
 }
 
 // Makes the 301 to the same path with a slash at its end, and with the same query, or a 400 if these make no header.
