@@ -132,6 +132,9 @@ impl<R: DataFiles + Clock + Wait + Drop> Handler<R, ServerRequest<R>> for Data {
             _ => request.respond(Response::empty(alloc, StatusCode(404)), current_date(rt)),
         }
     }
+
+    /// Drops the error.
+    fn on_error(&self, _rt: &R, _alloc: Global, _error: io::Error) {}
 }
 
 // Answers requests until none can be received, then unblocks another waiting thread so that it ends, too.

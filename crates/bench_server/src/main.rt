@@ -96,6 +96,9 @@ impl<R: Wait + Clock + Drop> Handler<R, ServerRequest<R>> for Hello {
         let response = Response::from_string(alloc, text)?;
         request.respond(response, current_date(rt))
     }
+
+    /// Drops the error.
+    fn on_error(&self, _rt: &R, _alloc: Global, _error: io::Error) {}
 }
 
 // Parses the option that names a profile.

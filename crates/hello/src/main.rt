@@ -32,6 +32,9 @@ impl<R: Clock + Wait + Drop> Handler<R, ServerRequest<R>> for HelloWorld {
         let text = String::from_str(alloc, "hello world")?;
         request.respond(Response::from_string(alloc, text)?, current_date(rt))
     }
+
+    /// Drops the error.
+    fn on_error(&self, _rt: &R, _alloc: Global, _error: io::Error) {}
 }
 
 // Answers requests of a server on four threads until `serve_by` returns, and ignores its error.
