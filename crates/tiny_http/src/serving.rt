@@ -36,6 +36,7 @@ pub trait Handler<R, Q> {
 
     /// Is called with the error of each `handle` that fails, on the same worker. Drops the error, unless the handler
     /// does otherwise, such as printing it. What was asked isn't known here: a handler logs that in `handle`.
+    /// A handler that is generic writes this call, since no proof is found for the default then.
     fn on_error(&self, _rt: &R, _alloc: Global, _error: io::Error) {}
 }
 
