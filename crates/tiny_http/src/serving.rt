@@ -12,9 +12,9 @@ use std::sync::{Arc, Wait};
 use std::time::Clock;
 use std::{io, thread};
 
-/// A handler of requests. `Q` is `ServerRequest<R>`, or any other `Request`, such as one that a test makes. Its
-/// parts may take any `AnyRequest`. Many threads may call the handler at once. (The request type is a parameter because no proof can be generated for an
-/// implementation of a trait that names `ServerRequest` directly.)
+/// A handler of requests. `Q` is `ServerRequest<R>`, or any other `Request`, such as one that a test makes. Its parts
+/// may take any `AnyRequest`. Many threads may call the handler at once. (The request type is a parameter because no
+/// proof can be generated for an implementation of a trait that names `ServerRequest` directly.)
 pub trait Handler<R, Q> {
     /// Responds to a request. If the request is dropped without a response, for example because this call fails, it
     /// gets an empty 500. The error goes to `on_error`.
